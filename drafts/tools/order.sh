@@ -1,5 +1,5 @@
 #!/bin/bash
-chain=" gvn_key gvn_model gvn_globals key_code repl_fields instance_file jnl_file jnl_record gated_file mupip_recover tp_commit region_journals region_store site_regions before_image gvt_leaf block_pool block_fmt jnl_extract gvn_eval global_dir site_files region_opening region_epochs world_defs gvn_text script_defs command_defs "
+chain=" gvn_key gvn_model gvn_globals key_code key_prefix repl_fields jnl_record gated_file jnl_file instance_file mupip_recover global_dir tp_commit region_journals repl_disk block_fmt block_pool gvt_leaf before_image region_store site_regions region_epochs jnl_index entry_index "
 while true; do
 for p in $(pgrep -f "/opt/rattle/bin/rattle "); do
   c=$(tr '\0' ' ' < /proc/$p/cmdline 2>/dev/null | sed -n 's/.*--crate-name \([a-z_]*\).*/\1/p')

@@ -9,10 +9,10 @@ const SITE: &[u8; 45] = b"\x01\0\0\0\x0b\x01\x01\x01A\x02\x01R\x01\x01S\0\
     \x01\0\0\0\x05\x04\x01\x01\x01B\
     \x01\0\0\0\x0d\x03\0\0\0\0\0\0\0\0\0\0\0\x01\0";
 
-/// The same CREATE, a REIGN of A from entry 1 on, and the CUT of generation 1.
+/// The same CREATE, the CUT of generation 1, and a REIGN of A from entry 1 on.
 const REIGNED: &[u8; 55] = b"\x01\0\0\0\x0b\x01\x01\x01A\x02\x01R\x01\x01S\0\
-    \x01\0\0\0\x0f\x02\x01A\0\0\0\x01\0\0\0\0\0\0\0\x01\
-    \x01\0\0\0\x0d\x03\0\0\0\0\0\0\0\0\0\0\0\x01\0";
+    \x01\0\0\0\x0d\x03\0\0\0\0\0\0\0\0\0\0\0\x01\
+    \x01\0\0\0\x0f\x02\x01A\0\0\0\x01\0\0\0\0\0\0\0\x01\0";
 
 /// The same CREATE, and a MAP to a region that isn't there.
 const ASTRAY: &[u8; 27] = b"\x01\0\0\0\x0b\x01\x01\x01A\x02\x01R\x01\x01S\0\

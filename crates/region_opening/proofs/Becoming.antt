@@ -1,5 +1,5 @@
 -- Regions that become others, one after the other.
-use Rattle.std.proofs.Common.{◌≡◌, inl, inr, ℕ, zero, suc, ◌+◌, ◌<◌, ◌≤◌, Bool, true, false, List, [], ◌∷◌, ◌++◌, length, take, drop, fold, slice_get, slice_set, Option, Some, None, IfSome, refl, sym, ◌∙◌, ap, subst, arith, append-nil}
+use Rattle.std.proofs.Common.{◌≡◌, inl, inr, ℕ, zero, suc, ◌+◌, ◌<◌, ◌≤◌, Bool, true, false, List, [], ◌∷◌, ◌++◌, length, take, drop, fold, slice_get, slice_set, Option, Some, IfSome, refl, sym, ◌∙◌, ap, subst, arith, append-nil}
 use Rattle.std.specs.Prelude.{nat_lt, slice_index, if◌then◌else◌}
 use Rattle.std.proofs.lemmas.Bool.{cases_eq, cases_lt}
 use Rattle.std.proofs.lemmas.Bool.Decides.{nat_tests}
@@ -111,6 +111,20 @@ updates_more f n seq e here = by (nat_lt f (n + 1)) refl
         ∙ sym (ap (λ (es : Sequence). updates_of es ++ updates_behind f (n + 1) e.transaction.updates) (drop_all f (take n seq) (omega (arith, long, past)))
         ∙ ap (λ (b : Bool). ◌++◌ {A = Update} [] (if b then e.transaction.updates else [])) is)
 
+-- the updates of one entry
+module _ (ps : List Pattern) (from : List ℕ) (n : ℕ) (us : List Update) (r : ℕ) (s m : Standing) where
+  -- in a region that is opened from before it
+  pub given_here : slice_index from r < n → IsChanged s m → m.globals ≡ fold apply s.globals (updates_in ps r us) → IsGivenEntry ps from n us r s m
+  given_here before changed made =
+      let is : nat_lt (slice_index from r) n ≡ true = grind (arith, nat_tests, before) in
+      record { changed = changed; made = made ∙ sym (ap (λ (b : Bool). fold apply s.globals (updates_in ps r (if b then us else []))) is) }
+
+  -- and in one that isn't
+  pub not_given : n ≤ slice_index from r → IsGivenEntry ps from n us r s s
+  not_given past =
+      let is : nat_lt (slice_index from r) n ≡ false = grind (arith, nat_tests, past) in
+      record { changed = unchanged s; made = sym (ap (λ (b : Bool). fold apply s.globals (updates_in ps r (if b then us else []))) is) }
+
 module _ (o : Option Files) (reigns : List Reign) (index : EntryIndex) (ps : List Pattern) (from : List ℕ) where
   -- up to a number behind which it's opened nothing was made
   pub given_begins : (t r : ℕ) (s : Standing) → t ≤ slice_index from r → IsGivenUpTo o reigns index ps from t r s s
@@ -142,6 +156,22 @@ module _ (o : Option Files) (reigns : List Reign) (index : EntryIndex) (ps : Lis
         ∙ sym (ap (λ (vs : List Update). fold apply s.globals (updates_in ps r vs)) (updates_more f n seq e (at seq indexed))
         ∙ both_made ps r s.globals (updates_of (drop f (take n seq))) us));
   }
+
+  -- up to the least of these numbers
+  pub all_begin : (t : ℕ) (rs : List Standing) → length from ≡ length rs → ((r : ℕ) → r < length from → t ≤ slice_index from r) → AreBecome (IsGivenUpTo o reigns index ps from t) (length rs) rs rs
+  all_begin t rs many low = record {
+    count = refl;
+    each = λ r s m within at now. subst (IsGivenUpTo o reigns index ps from t r s) (one_element s m (sym at ∙ now)) (given_begins t r s (low r (omega (arith, within, many))));
+    rest = λ r past. refl;
+  }
+
+  -- in all regions those of one entry more
+  pub all_more : (n : ℕ) (rs ms ws : List Standing) (e : Entry) (us : List Update) → us ≡ e.transaction.updates → IfSome o (λ files. (seq : Sequence) → Indexes (InFiles files) reigns index seq → slice_get seq n ≡ Some e)
+      → AreBecome (IsGivenUpTo o reigns index ps from n) (length rs) rs ms → AreBecome (IsGivenEntry ps from (n + 1) us) (length ms) ms ws → AreBecome (IsGivenUpTo o reigns index ps from (n + 1)) (length rs) rs ws
+  all_more n rs ms ws e us is read before given =
+      become_then (IsGivenUpTo o reigns index ps from n) (IsGivenEntry ps from (n + 1) e.transaction.updates) (IsGivenUpTo o reigns index ps from (n + 1)) (length rs) (length ms) rs ms ws refl refl
+      (λ r s m w first second. given_more n r s m w e read first second) before
+      (subst (λ (xs : List Update). AreBecome (IsGivenEntry ps from (n + 1) xs) (length ms) ms ws) is given)
 
 -- the same by values that equal these
 pub become_as : (o v : Option Files) (h reigns : List Reign) (index : EntryIndex) (ps qs : List Pattern) (given from : List ℕ) (t n : ℕ) (rs ms : List Standing) → v ≡ o → h ≡ reigns → ps ≡ qs → given ≡ from

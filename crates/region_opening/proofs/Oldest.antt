@@ -1,5 +1,5 @@
 -- The oldest images among records, of which the others make no difference.
-use Rattle.std.proofs.Common.{◌≡◌, ℕ, ◌*◌, List, [], ◌∷◌, ◌++◌, map, filter, drop, Option, Result, Ok, Err, IfSome, refl, sym, ◌∙◌, ap, subst}
+use Rattle.std.proofs.Common.{◌≡◌, ℕ, ◌*◌, List, [], ◌∷◌, map, drop, Option, Result, Ok, Err, IfSome, refl, sym, ◌∙◌, ap, subst}
 use Rattle.std.specs.Prelude.{IfOk, IsSome, nat_lt, unwrap_or, replicate, ◌==◌, Some, None, if◌then◌else◌}
 use Rattle.std.specs.Option.{option_or}
 use Rattle.disk_defs.specs.Disk.{Files}
@@ -14,7 +14,7 @@ use Rattle.jnl_record.specs.Values.{placed_value}
 use Rattle.jnl_index.specs.declared.placed.PlacedSign.{PlacedSign}
 use Rattle.region_store.specs.Laid.{epoch_at}
 use Rattle.region_store.specs.Region.{Standing, HoldsRegion, IsHeld, IsReplayed}
-use Rattle.region_opening.specs.Images.{is_image, images_in}
+use Rattle.region_opening.specs.Images.{images_in}
 use Rattle.region_opening.specs.Signs.{AreTold}
 use Rattle.region_opening.proofs.Said.{told_behind}
 
@@ -77,9 +77,13 @@ module _ (o : Option Files) (n after number blocks : ℕ) (signs given : List Pl
       (λ files. (m : ℕ) → (b : ℕ) × (offset ≡ 4096 * b) × IsOutsideAt (image_state (epoch_at m blocks opened) (block_of (files (database_file n)))) b)
       (λ files. (js : List Placed) → AreTold files n signs js → (f ≡ database_file n) × (b : ℕ) × (offset ≡ 4096 * b) × IsOutsideAt (image_state (of_records number blocks (drop after js)) (block_of (files (database_file n)))) b) told outside
       (λ files all h js are.
-      let here = h number in
-      (at, here.0, here.1, subst (λ (state : ℕ → Option (List ℕ)). IsOutsideAt state here.0) (same_state number blocks (drop after js) (block_of (files (database_file n))))
-      (subst (λ (ps : List Placed). IsOutsideAt (image_state (of_records number blocks ps) (block_of (files (database_file n)))) here.0) (among files js all are) here.2)))
+      let here = h number in (
+        at,
+        here.0,
+        here.1,
+        subst (λ (state : ℕ → Option (List ℕ)). IsOutsideAt state here.0) (same_state number blocks (drop after js) (block_of (files (database_file n))))
+            (subst (λ (ps : List Placed). IsOutsideAt (image_state (of_records number blocks ps) (block_of (files (database_file n)))) here.0) (among files js all are) here.2),
+      ))
 
 -- it's on the blocks of some epoch, whatever was read
 pub held_opened : {E : Type 0} (result : Result Standing E) (o v : Option Files) (file blocks : ℕ) (opened : List PlacedRecord) → v ≡ o → IfOk result (λ made. made.file ≡ file)

@@ -1,5 +1,5 @@
 -- What an opened region is against the files, and what all of them are.
-use Rattle.std.proofs.Common.{◌≡◌, ◌⊎◌, inl, inr, ℕ, zero, suc, ◌*◌, ◌/◌, ◌-◌, ◌<◌, ◌≤◌, ◌==◌, Bool, true, false, List, [], ◌∷◌, ◌++◌, length, map, take, drop, fold, slice_get, Option, Some, None, IsTrue, refl, sym, ◌∙◌, ap, subst, arith}
+use Rattle.std.proofs.Common.{◌≡◌, ◌⊎◌, inl, inr, ℕ, zero, suc, ◌*◌, ◌-◌, ◌<◌, ◌≤◌, ◌==◌, Bool, true, false, List, [], ◌∷◌, ◌++◌, length, map, take, drop, fold, slice_get, Option, Some, None, IsTrue, refl, sym, ◌∙◌, ap, subst, arith}
 use Rattle.std.specs.Prelude.{IfSome, slice_index, slice_index_or, unwrap_or, nat_lt, replicate, if◌then◌else◌}
 use Rattle.std.specs.List.{AllByRecursion}
 use Rattle.std.specs.FinMap as globals
@@ -7,17 +7,15 @@ use Rattle.std.proofs.lemmas.Bool.Decides.{nat_tests}
 use Rattle.std.proofs.lemmas.Bool.{cases_lt}
 use Rattle.std.proofs.lemmas.List.{length-replicate, take-take, get_or-append_right}
 use Rattle.std.proofs.Math.ListN.{get_or-append}
-use Rattle.std.proofs.Math.Nat.{mul-div_cancel_left}
 use Rattle.std.proofs.Math.Seq.{take-length}
 use Rattle.disk_defs.specs.Disk.{Files}
 use Rattle.global_defs.specs.Key.{Key, key_cmp}
 use Rattle.global_defs.specs.Encoded.{encoded}
-use Rattle.global_defs.specs.Entry.{Globals, Reign, Sequence, Update, apply, state}
+use Rattle.global_defs.specs.Entry.{Globals, Reign, Sequence, apply, state}
 use Rattle.global_defs.specs.Fields.{IsTransaction}
 use Rattle.journal_defs.specs.Numbers.{database_file}
 use Rattle.journal_defs.specs.Instance.{InstanceRecord, regions}
 use Rattle.journal_defs.specs.Directory.{Pattern, patterns}
-use Rattle.journal_defs.specs.Surviving.{reigns}
 use Rattle.journal_defs.specs.Surviving.{reigns}
 use Rattle.journal_defs.specs.Sequence.{Placed, Records, IsSequence}
 use Rattle.journal_defs.specs.Epochs.{Blocks, Chosen, beginning, chosen, image_state, block_of, NeedsForward}
@@ -27,7 +25,6 @@ use Rattle.journal_defs.specs.Fit.{IsSoundImage}
 use Rattle.block_laws.specs.Nodes.{HaveKeys, updates_of, updates_in}
 use Rattle.journal_laws.proofs.ImageSteps.{all_take}
 use Rattle.block_laws.proofs.Chains as chains
-use Rattle.block_laws.proofs.Formed as formed
 use Rattle.block_laws.proofs.Formed as formed
 use Rattle.block_laws.proofs.Parts as parts
 use Rattle.region_store.specs.Region.{Standing, HoldsRegion, IsHeld, IsReplayed}
@@ -41,6 +38,7 @@ use Rattle.entry_index.specs.declared.index.EntryIndex.{EntryIndex}
 use Rattle.entry_index.specs.Signs.{signs_of}
 use Rattle.entry_index.specs.Indexes.{AreSigns, Indexes}
 use Rattle.entry_index.specs.Found.{AreFound, entry_count}
+use Rattle.entry_index.proofs.AmongLaws as among
 use Rattle.region_opening.specs.declared.epoch.EpochAt.{EpochAt}
 use Rattle.region_opening.specs.Epochs.{chosen_at}
 use Rattle.region_opening.specs.Signs.{Say, AreTold}
@@ -317,7 +315,8 @@ each_more P rs ns s x n long many each this r m here = elim (of_more rs s r m he
       subst (λ (k : ℕ). P r k m) (sym (get_or-append ns (x ∷ []) 0 r inside)) (each r m low)
   | inr last ↦
       let at : r ≡ n = last.0 ∙ long in
-      let number : slice_index (ns ++ x ∷ []) r ≡ x = get_or-append_right ns (x ∷ []) n r 0 many (omega (arith, at)) ∙ ap (λ (k : ℕ). slice_index (x ∷ []) k) (omega (arith, at)) in
+      let first : r - n ≡ 0 = omega (arith, at) in
+      let number : slice_index (ns ++ x ∷ []) r ≡ x = get_or-append_right ns (x ∷ []) n r 0 many (omega (arith, at)) ∙ ap (λ (k : ℕ). slice_index (x ∷ []) k) first in
       subst (λ (k : ℕ). P r k m) (sym number) (subst (λ (q : ℕ). P q x m) (sym at) (subst (λ (y : Standing). P n x y) (sym last.1) this))
 ]
 
@@ -374,17 +373,9 @@ module _ (o : Option Files) (instance : List InstanceRecord) (t : ℕ) (signs : 
         refused = is (journal n) (region_told files signs journal n are) seq;
       })
 
--- how many rows an index has
-pub counted : (index : EntryIndex) (t : ℕ) → 1 ≤ index.regions → t ≡ length index.places.items / index.regions → t ≡ entry_count index
-counted index t some is =
-    let positive : (index.regions == 0) ≡ false = grind (arith, nat_tests, some) in
-    is ∙ sym (ap (λ (b : Bool). if b then 0 else length index.places.items / index.regions) positive)
-
 -- how many entries it has
 pub count_is : (files : Files) (rs : List Reign) (index : EntryIndex) (seq : Sequence) → 1 ≤ index.regions → Indexes (InFiles files) rs index seq → entry_count index ≡ length seq
-count_is files rs index seq some is =
-    let positive : (index.regions == 0) ≡ false = grind (arith, nat_tests, some) in
-    ap (λ (b : Bool). if b then 0 else length index.places.items / index.regions) positive ∙ ap (λ (n : ℕ). n / index.regions) is.rows ∙ mul-div_cancel_left (length seq) {index.regions} (omega (arith, some))
+count_is files rs index seq some is = among.counted index (length seq) some is.rows
 
 -- all regions, with the updates up to the target made
 module _ (o : Option Files) (instance : List InstanceRecord) (signs : List (List PlacedSign)) (index : EntryIndex) (t : ℕ) (from : List ℕ) (rs ms : List Standing)
@@ -528,21 +519,21 @@ module _ (o : Option Files) (instance : List InstanceRecord) (index : EntryIndex
 
   -- they have their parts of the state of all entries
   module _ (rs : List Standing) (told : (r : ℕ) (s : Standing) → slice_get rs r ≡ Some s → IfSome o (λ files. (seq : Sequence) → Indexes (InFiles files) (reigns instance) index seq → s.globals ≡ region_state (patterns instance) r (take t seq))) (ps : List Pattern) (are : ps ≡ patterns instance) where
-    abbrev At : Type 0
-    At = (r : ℕ) × (s : Standing) × (slice_get rs r ≡ Some s)
+    abbrev AnyRegion : Type 0
+    AnyRegion = (r : ℕ) × (s : Standing) × (slice_get rs r ≡ Some s)
 
-    abbrev Made : At → Files → Type 0
+    abbrev Made : AnyRegion → Files → Type 0
     Made i files = (seq : Sequence) → Indexes (InFiles files) (reigns instance) index seq → i.1.globals ≡ region_state (patterns instance) i.0 (take t seq)
 
-    parts_of : (files : Files) → ((i : At) → Made i files) → (signs : List (List PlacedSign)) (u : Records) (seq : Sequence) → AreFound files instance signs index u seq → ArePartsOf ps rs seq
+    parts_of : (files : Files) → ((i : AnyRegion) → Made i files) → (signs : List (List PlacedSign)) (u : Records) (seq : Sequence) → AreFound files instance signs index u seq → ArePartsOf ps rs seq
     parts_of files made signs u seq found =
         let whole : take t seq ≡ seq = ap (λ (n : ℕ). take n seq) (all_entries ∙ count_is files (reigns instance) index seq some found.indexed) ∙ take-length seq in
         are_parts ps rs seq (λ r s here. made (r, s, here) seq found.indexed ∙ ap (region_state (patterns instance) r) whole ∙ ap (λ (qs : List Pattern). region_state qs r seq) (sym are))
 
     pub anew_parts : (ms : List Standing) → ms ≡ rs → IfSome o (λ files. (signs : List (List PlacedSign)) (u : Records) (seq : Sequence) → AreFound files instance signs index u seq → ArePartsOf ps ms seq)
-    anew_parts ms same = weaker_told o (λ files. (i : At) → Made i files) (λ files. (signs : List (List PlacedSign)) (u : Records) (seq : Sequence) → AreFound files instance signs index u seq → ArePartsOf ps ms seq)
+    anew_parts ms same = weaker_told o (λ files. (i : AnyRegion) → Made i files) (λ files. (signs : List (List PlacedSign)) (u : Records) (seq : Sequence) → AreFound files instance signs index u seq → ArePartsOf ps ms seq)
         (each_told o Made (λ i. told i.0 i.1 i.2)) (λ files made signs u seq found. subst (λ (xs : List Standing). ArePartsOf ps xs seq) (sym same) (parts_of files made signs u seq found))
 
     pub anew_state : (all : Globals) → ((xs : Sequence) → ArePartsOf ps rs xs → all ≡ state xs) → IfSome o (λ files. (signs : List (List PlacedSign)) (u : Records) (seq : Sequence) → AreFound files instance signs index u seq → all ≡ state seq)
-    anew_state all joins = weaker_told o (λ files. (i : At) → Made i files) (λ files. (signs : List (List PlacedSign)) (u : Records) (seq : Sequence) → AreFound files instance signs index u seq → all ≡ state seq)
+    anew_state all joins = weaker_told o (λ files. (i : AnyRegion) → Made i files) (λ files. (signs : List (List PlacedSign)) (u : Records) (seq : Sequence) → AreFound files instance signs index u seq → all ≡ state seq)
         (each_told o Made (λ i. told i.0 i.1 i.2)) (λ files made signs u seq found. joins seq (parts_of files made signs u seq found))

@@ -1,15 +1,20 @@
 -- Signs and the records whose signs they are.
-use Rattle.std.proofs.Common.{◌≡◌, inl, inr, ℕ, zero, suc, ◌+◌, ◌<◌, ◌≤◌, List, [], ◌∷◌, ◌++◌, length, take, drop, get_or, refl, sym, ◌∙◌, ap, subst, arith}
-use Rattle.std.specs.List.{AllByRecursion, AllZip}
+use Rattle.std.proofs.Common.{◌≡◌, inl, inr, ℕ, zero, suc, ◌+◌, ◌<◌, false, List, [], ◌∷◌, ◌++◌, length, take, drop, get_or, refl, sym, ◌∙◌, ap, subst, arith}
+use Rattle.std.specs.List.{AllByRecursion}
 use Rattle.std.proofs.lemmas.Bool.{cases_lt}
 use Rattle.std.proofs.lemmas.List.{get_or_past}
 use Rattle.disk_defs.specs.Disk.{Files}
 use Rattle.journal_defs.specs.Sequence.{Placed}
 use Rattle.jnl_index.specs.declared.placed.PlacedSign.{PlacedSign}
+use Rattle.jnl_index.specs.declared.sign.Sign.TheVariants.{Pini}
 use Rattle.jnl_index.specs.Places.{IsSignOf, AreSignsOf}
 use Rattle.entry_index.specs.Signs.{signs_of}
 use Rattle.entry_index.specs.Indexes.{AreSigns}
 use Rattle.region_opening.specs.Signs.{Says, Say, AllSay, IsDrawn, AreTold}
+
+-- the sign that is read where there is none
+abbrev pub NO_SIGN : PlacedSign
+NO_SIGN = record { generation = 0; offset = 0; sign = Pini 0 false 0 0 }
 
 -- the record of the sign at a place, and those behind it
 pub said_at : (ss : List PlacedSign) (js : List Placed) (i : ℕ) (d : PlacedSign) → i < length ss → Say ss js → (p : Placed) × (drop i js ≡ p ∷ drop (suc i) js) × Says (get_or ss i d) p
@@ -20,7 +25,7 @@ said_at (s ∷ ss) (j ∷ js) (suc i) d low all = said_at ss js i d (omega (arit
 
 -- the record of a sign by its place, behind those before it
 pub sign_at : (files : Files) (r : ℕ) (ss : List PlacedSign) (js : List Placed) (i : ℕ) (d : PlacedSign) → i < length ss → AreTold files r ss js → (p : Placed) × (take (i + 1) js ≡ take i js ++ p ∷ []) × IsSignOf files r (get_or ss i d) p × IsDrawn p
-sign_at files r ss js i d low told = let at = by ss js i low told.signs_of told.drawn in (at.0, ap (λ (n : ℕ). take n js) (omega arith) ∙ at.1, at.2, at.3)
+sign_at files r ss js i d low told = let at = by ss js i low told.signs_of told.drawn in let next : i + 1 ≡ suc i = omega arith in (at.0, ap (λ (n : ℕ). take n js) next ∙ at.1, at.2, at.3)
   where
     by : (xs : List PlacedSign) (ys : List Placed) (k : ℕ) → k < length xs → AreSignsOf files r xs ys → AllByRecursion IsDrawn ys → (p : Placed) × (take (suc k) ys ≡ take k ys ++ p ∷ []) × IsSignOf files r (get_or xs k d) p × IsDrawn p
     by [] ys k less all drawn = absurd (omega (arith, less))

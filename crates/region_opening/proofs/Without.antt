@@ -1,5 +1,5 @@
 -- The first generation that keeps no images behind an epoch, by signs.
-use Rattle.std.proofs.Common.{◌≡◌, ℕ, ◌==◌, ◌&&◌, ◌||◌, Bool, true, false, cond, List, [], ◌∷◌, map, Option, Some, None, refl, sym, ◌∙◌, ap}
+use Rattle.std.proofs.Common.{◌≡◌, ℕ, zero, suc, ◌<◌, ◌==◌, ◌&&◌, ◌||◌, Bool, true, false, cond, List, [], ◌∷◌, length, map, drop, get_or, Some, None, refl, ◌∙◌, ap, arith}
 use Rattle.std.specs.List.{find, list_any}
 use Rattle.std.specs.Option.{option_map}
 use Rattle.std.specs.Ordering.{nat_cmp}
@@ -9,9 +9,8 @@ use Rattle.journal_defs.specs.Journal.{JournalRecord, Pini, Epoch, Pblk, Tcom}
 use Rattle.journal_defs.specs.Sequence.{Placed}
 use Rattle.journal_defs.specs.Epochs.{starts_without, is_without}
 use Rattle.jnl_index.specs.declared.placed.PlacedSign.{PlacedSign}
-use Rattle.jnl_index.specs.declared.sign.Sign.{Sign}
 use Rattle.jnl_index.specs.Signs.{sign_of}
-use Rattle.region_opening.specs.Signs.{Says, Say, starts_by, is_without_by, AreWithout}
+use Rattle.region_opening.specs.Signs.{Say, starts_by, is_without_by, AreWithout}
 
 -- among no generations there is none
 pub none_found : (s : BTreeSet ℕ) (gs : List ℕ) → s.keys ≡ [] → find (contains nat_cmp s) gs ≡ None
@@ -55,3 +54,9 @@ found_among f p (s ∷ ss) (j ∷ js) are all =
 pub first_found : (ss : List PlacedSign) (js : List Placed) (made : BTreeSet ℕ) (behind : List PlacedSign) (after : List Placed) → Say ss js → AreWithout ss made → Say behind after
     → find (contains nat_cmp made) (map (λ s. s.generation) behind) ≡ option_map (λ j. j.generation) (find (is_without js) after)
 first_found ss js made behind after all are say = found_among (contains nat_cmp made) (is_without js) behind after (λ j. are j.generation ∙ without_said ss js j.generation all) say
+
+-- a sign of none of these generations makes no difference
+pub not_this : (f : ℕ → Bool) (ss : List PlacedSign) (i : ℕ) (d : PlacedSign) → i < length ss → f (get_or ss i d).generation ≡ false → find f (map (λ s. s.generation) (drop i ss)) ≡ find f (map (λ s. s.generation) (drop (suc i) ss))
+not_this f [] i d low none = absurd (omega (arith, low))
+not_this f (s ∷ ss) zero d low none = ap (λ (b : Bool). cond b (Some s.generation) (find f (map (λ x. x.generation) ss))) none
+not_this f (s ∷ ss) (suc i) d low none = not_this f ss i d (omega (arith, low)) none

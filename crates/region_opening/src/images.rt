@@ -11,6 +11,7 @@ ghost use Rattle.jnl_index.specs.Places.{StandsAt, IsSignOf};
 ghost use Rattle.region_opening.specs.Signs.{IsDrawn, AreTold};
 ghost use Rattle.region_opening.specs.Images.{images_in};
 
+use gvn_key::NoMemory;
 use jnl_file::{JournalError, journal_file};
 use jnl_index::{PlacedSign, Sign, read_placed};
 use jnl_record::{JnlRecord, PlacedRecord};
@@ -30,7 +31,11 @@ fn is_image(what: &JnlRecord) -> bool
     ensures whole { (i : Before) → record_value what.now ≡ journal.Pblk i → IsInForm (journal.Pblk i) → result ≡ true }
 {
     match what {
-        JnlRecord::Pblk { block: _, image } => image.len() == BLOCK,
+        JnlRecord::Pblk { block, image } => {
+            // (its number has 32 bits, as each has)
+            let _block = *block;
+            image.len() == BLOCK
+        }
         JnlRecord::Pini { .. } | JnlRecord::Epoch { .. } | JnlRecord::Tcom { .. } => false,
     }
 }
@@ -79,6 +84,14 @@ fn read_image<D: Disk>(
     }
 }
 
+/// Adds an image to those before it.
+fn keep_image(made: &mut Vec<PlacedRecord>, image: PlacedRecord) -> Result<(), NoMemory>
+    ensures { OnOk result (made.new.items ≡ made.old.items ++ image ∷ []) }
+{
+    made.push(image)?;
+    Ok(())
+}
+
 /// Adds the image that a record of this sign is, if it's one.
 fn add_image<D: Disk>(
     alloc: Global,
@@ -100,9 +113,7 @@ fn add_image<D: Disk>(
     match placed.sign {
         Sign::Pblk { .. } => {
             let image = read_image(alloc, disk, region, placed.generation, placed.offset)?;
-            if made.push(image).is_err() {
-                return Err(RegionError::NoMemory);
-            }
+            keep_image(made, image)?;
             Ok(())
         }
         Sign::Pini { .. } | Sign::Epoch { .. } | Sign::Tcom { .. } => Ok(()),

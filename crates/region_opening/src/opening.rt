@@ -229,7 +229,16 @@ pub(crate) fn open_each<D: Disk>(
     let _ = directory.regions();
     let begun = begin_each(alloc, disk, instance, directory, signs, target)?;
     let AllBegun { mut regions, from } = begun;
-    replay(alloc, disk, directory, entries, history, &from, &mut regions, target)?;
+    replay(
+        alloc,
+        disk,
+        directory,
+        entries,
+        history,
+        &from,
+        &mut regions,
+        target,
+    )?;
     Ok(regions)
 }
 
@@ -241,8 +250,8 @@ pub(crate) fn open_each<D: Disk>(
 /// # Errors
 /// `NotAFile` with the file and the place of a region whose blocks aren't those of its part of the state: there is a block outside
 /// the format or, with the place 0, the blocks hold nodes that aren't the region's. Each region before it has its blocks in the format
-/// or needs forward recovery for the target. Where the files don't have what the signs and the index say, it is told by what was asked
-/// for. `Failed` only where the disk's count of faults rose; `NoMemory`.
+/// or needs forward recovery for the target. Where the files don't have what the signs and the index say, it may name any place.
+/// `Failed` only where the disk's count of faults rose; `NoMemory`.
 pub fn open_regions<D: Disk>(
     alloc: Global,
     disk: &mut D,

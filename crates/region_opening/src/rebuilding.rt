@@ -54,8 +54,8 @@ pub fn rebuild_regions<D: Disk>(
     ensures count_of_faults { (fault : ℕ) → IsErrOf result (RegionError.Failed fault) → fault ≡ (D.disk disk.new).faults }
     ensures cause { (fault : ℕ) → IsErrOf result (RegionError.Failed fault) → Rose (D.disk disk.old).faults (D.disk disk.new).faults }
 {
-    // without a record of its journals a region goes back to no epoch
     let _ = directory.regions();
+    // without a record of its journals a region goes back to no epoch
     let signs = Vec::new(alloc);
     let target = entries.len();
     let regions = open_each(

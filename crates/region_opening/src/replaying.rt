@@ -70,6 +70,25 @@ fn replay_updates(
     Ok(())
 }
 
+/// Makes an entry's updates in a region, those of its names, where it is opened from before the entry.
+fn make_in(
+    directory: &Directory,
+    from: &[u64],
+    number: u64,
+    place: usize,
+    region: &mut Region,
+    updates: &[Update],
+) -> Result<(), NoMemory>
+    requires forms { AllByRecursion IsUpdate (map update_value updates.now) }
+    requires place { place < length from.now }
+    ensures { OnOk result (IsGivenEntry directory.now.patterns from.now number (map update_value updates.now) place region.old region.new) }
+{
+    if from[place] < number {
+        return replay_updates(directory, place, region, updates);
+    }
+    Ok(())
+}
+
 /// Makes an entry's updates in each of the regions that are opened from before it, those of its names.
 fn make_entry(
     directory: &Directory,
@@ -82,10 +101,8 @@ fn make_entry(
     requires count { length from.now ≡ length regions.old.items }
     ensures made { OnOk result (AreBecome (IsGivenEntry directory.now.patterns from.now number (map update_value updates.now)) (length regions.old.items) regions.old.items regions.new.items) }
 {
-    for region in 0..regions.len() {
-        if from[region] < number {
-            replay_updates(directory, region, &mut regions[region], updates)?;
-        }
+    for place in 0..regions.len() {
+        make_in(directory, from, number, place, &mut regions[place], updates)?;
     }
     Ok(())
 }

@@ -1,5 +1,5 @@
 -- The parts past a length, as they are read by the signs of a region's records.
-use Rattle.std.proofs.Common.{◌≡◌, inl, inr, ℕ, zero, suc, ◌+◌, ◌≤◌, ◌<◌, nat_lt, Bool, true, false, cond, List, [], ◌∷◌, ◌++◌, length, map, take, get_or, filter, Option, None, IfSome, Err, IsErrOf, refl, sym, ◌∙◌, ap, subst, arith, if◌then◌else◌}
+use Rattle.std.proofs.Common.{◌≡◌, inl, inr, ℕ, zero, suc, ◌+◌, ◌≤◌, ◌<◌, Bool, true, false, cond, List, [], ◌∷◌, ◌++◌, length, map, take, get_or, Option, None, IfSome, Err, IsErrOf, refl, sym, ◌∙◌, ap, subst, arith}
 use Rattle.std.proofs.Math.Path.{fun_ext}
 use Rattle.std.proofs.lemmas.Bool.{cases_Bool, cases_lt}
 use Rattle.std.proofs.lemmas.List.{length-map, get_or_past, get_or_append_left, get_or_push, map-append, take_all}
@@ -12,7 +12,7 @@ use Rattle.journal_defs.specs.Journal as journal
 use Rattle.journal_defs.specs.Journal.{JournalRecord, Part}
 use Rattle.journal_defs.specs.Instance.{InstanceRecord, NamedMode, regions}
 use Rattle.journal_defs.specs.Broken.{BrokenPart, part_past, parts_past, broken}
-use Rattle.journal_defs.specs.Sequence.{Placed, Records}
+use Rattle.journal_defs.specs.Sequence.{Placed}
 use Rattle.jnl_file.specs.declared.error.JournalError.{JournalError}
 use Rattle.jnl_file.specs.declared.error.JournalError.TheVariants as journals
 use Rattle.jnl_record.specs.declared.placed.PlacedRecord.{PlacedRecord}
@@ -44,8 +44,8 @@ not_past rs n g (journal.Tcom p) h = rw h refl
 only_past : (rs : List InstanceRecord) (n : ℕ) (js : List Placed) → parts_past rs n (all_past n js) ≡ parts_past rs n js
 only_past rs n [] = refl
 only_past rs n (p ∷ ps) = elim (cases_Bool (is_past n p.what)) [
-  | inl yes ↦ rw yes (ap (cons_option (part_past rs n p.generation p.what)) (only_past rs n ps))
-  | inr no ↦ rw no (only_past rs n ps ∙ ap (λ (o : Option Part). cons_option o (parts_past rs n ps)) (sym (not_past rs n p.generation p.what no)))
+  | inl holds ↦ rw holds (ap (cons_option (part_past rs n p.generation p.what)) (only_past rs n ps))
+  | inr fails ↦ rw fails (only_past rs n ps ∙ ap (λ (o : Option Part). cons_option o (parts_past rs n ps)) (sym (not_past rs n p.generation p.what fails)))
 ]
 
 -- the broken list of the parts past the length is that of all records
@@ -101,10 +101,10 @@ module _ (files : Files) (region n : ℕ) (s : PlacedSign) (p : Placed) (is : Is
   told b by = sym (told_by_sign n p.what) ∙ ap (is_past_by_sign n) (sym is.says) ∙ by
 
   pub none_of : is_past_by_sign n s.sign ≡ false → all_past n (p ∷ []) ≡ []
-  none_of no = ap (λ (b : Bool). cond b (p ∷ []) []) (told false no)
+  none_of fails = ap (λ (b : Bool). cond b (p ∷ []) []) (told false fails)
 
   pub one_of : is_past_by_sign n s.sign ≡ true → all_past n (p ∷ []) ≡ p ∷ []
-  one_of yes = ap (λ (b : Bool). cond b (p ∷ []) []) (told true yes)
+  one_of holds = ap (λ (b : Bool). cond b (p ∷ []) []) (told true holds)
 
 -- one record more
 pub past_more : (n : ℕ) (files : Files) (region : ℕ) (s : PlacedSign) (journal : List Placed) (i : ℕ) (at : IsAt files region s journal i) → all_past n (take i journal) ++ all_past n (at.placed ∷ []) ≡ all_past n (take (i + 1) journal)

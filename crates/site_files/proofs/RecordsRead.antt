@@ -57,8 +57,13 @@ pub are_held : (o : Option Files) (rs : List InstanceRecord) (last : ℕ → ℕ
     → IfSome o (λ files. (u : Records) × (u.instance ≡ rs) × AreRecords files u × AreSigns files signs u.journal)
 are_held o rs last signs n g many newest all is have =
     both_weak o (λ files. IsInstance (files INSTANCE) rs) (HaveSigns n g last signs) (λ files. (u : Records) × (u.instance ≡ rs) × AreRecords files u × AreSigns files signs u.journal) is have
-    (λ files here there. (record { instance = rs; journal = there.journal }, refl, record {
-      instance = here;
-      journals = λ r low. (last r, subst (λ (k : ℕ). IsJournal files r k (last r) (there.journal r)) newest (there.have r (omega (arith, low, many))));
-      no_more = λ r high. there.are.no_more r (omega (arith, high, many, all));
-    }, there.are))
+    (λ files here there. (
+      record { instance = rs; journal = there.journal },
+      refl,
+      record {
+        instance = here;
+        journals = λ r low. (last r, subst (λ (k : ℕ). IsJournal files r k (last r) (there.journal r)) newest (there.have r (omega (arith, low, many))));
+        no_more = λ r high. there.are.no_more r (omega (arith, high, many, all));
+      },
+      there.are,
+    ))

@@ -14,6 +14,7 @@ use Rattle.journal_defs.specs.Journal.{JournalRecord}
 use Rattle.journal_defs.specs.Stands.{IsJournal, in_generation}
 use Rattle.journal_laws.proofs.ImageSteps.{all_both}
 use Rattle.jnl_file.specs.Generations.{AreDurable}
+use Rattle.jnl_file.proofs.Newer.{all_told}
 use Rattle.site_defs.specs.OutsideJournal.{IsOutsideGenerations}
 use Rattle.jnl_index.specs.declared.placed.PlacedSign.{PlacedSign}
 use Rattle.jnl_index.specs.Order.{AreInOrder}
@@ -121,6 +122,24 @@ ordered_more n signs journal found new many was here =
     (subst (λ (l : List Placed). AreInOrder (get_or signs r []) l) (sym (one_other journal n r new (λ same. omega (arith, same, low)))) is))
     (subst (λ (ss : List PlacedSign). AreInOrder ss (and_one journal n new n)) (sym (get_or_push signs found [] n many))
     (subst (λ (l : List Placed). AreInOrder found l) (sym (one_here journal n new)) here))
+
+-- no region yet
+pub none_read : {J : Type 0} (items : J → List PlacedSign) (o : Option Files) (g : ℕ) (lasts : List ℕ) (js : List J) → js ≡ [] → IfSome o (HaveSigns 0 g (last_of lasts) (map items js))
+none_read items o g lasts js none =
+    let empty : length (map items js) ≡ 0 = length-map js items ∙ ap length none in
+    all_told o (HaveSigns 0 g (last_of lasts) (map items js)) (λ files. record {
+      journal = λ r. [];
+      have = λ r low. absurd (omega (arith, low));
+      are = record {
+        each = λ r low. absurd (omega (arith, low, empty));
+        generations = λ r low. absurd (omega (arith, low, empty));
+        no_more = λ r past. refl;
+      };
+      ordered = λ r low. absurd (omega (arith, low, empty));
+    })
+
+pub none_began : (lasts : List ℕ) (g r : ℕ) → lasts ≡ [] → last_of lasts r ≤ g
+none_began lasts g r none = subst (λ (l : List ℕ). last_of l r ≤ g) (sym none) (omega arith)
 
 -- the same of lists in vectors, as the disk tells it
 pub told_more : {J : Type 0} (items : J → List PlacedSign) (o n : Option Files) (region next g : ℕ) (lasts lasts2 : List ℕ) (js js2 : List J) (last : ℕ) (j : J) → g ≤ 65535 → next ≡ region + 1 → n ≡ o

@@ -104,15 +104,20 @@ pub was_read : (o : Option Files) (v w x : View) (rs : List InstanceRecord) (las
     → IfSome o (HaveSigns n g last signs) → IfSome o (AreAllDurable w n g) → IfSome o (AreUnbegun n next) → IfSome o (AreUnbegunDurable x n next)
     → IfSome o (λ files. (journal : ℕ → List Placed) × WasRead x rs last journal files × AreSigns files signs journal × AreAllInOrder signs journal)
 was_read None v w x rs last signs n g next many newest drawn all lawful_w lawful_x first second is durable have kept unbegun kept_next = tt
-was_read (Some files) v w x rs last signs n g next many newest drawn all lawful_w lawful_x first second is durable have kept unbegun kept_next = (have.journal, record {
-  holds = record {
-    instance = is;
-    older = λ r here. subst (λ (k : ℕ). IsJournal files r k (last r) (have.journal r)) newest (have.have r (omega (arith, here, many)));
-    no_more = λ r high. have.are.no_more r (omega (arith, high, many, all));
-    next = λ r here. subst (λ (k : ℕ). records (files (journal_file k r)) ≡ Some []) drawn (unbegun r (omega (arith, here, many)));
-  };
-  instance = durable_kept w x INSTANCE (files INSTANCE) lawful_x second (durable_kept v w INSTANCE (files INSTANCE) lawful_w first durable);
-  journals = λ r here. subst (λ (k : ℕ). AreDurable x r k files) newest
-      (λ h least most. durable_kept w x (journal_file h r) (files (journal_file h r)) lawful_x second (kept r (omega (arith, here, many)) h least most));
-  next = λ r here. subst (λ (k : ℕ). IsDurable x (journal_file k r) (files (journal_file k r))) drawn (kept_next r (omega (arith, here, many)));
-}, have.are, have.ordered)
+was_read (Some files) v w x rs last signs n g next many newest drawn all lawful_w lawful_x first second is durable have kept unbegun kept_next = (
+  have.journal,
+  record {
+    holds = record {
+      instance = is;
+      older = λ r here. subst (λ (k : ℕ). IsJournal files r k (last r) (have.journal r)) newest (have.have r (omega (arith, here, many)));
+      no_more = λ r high. have.are.no_more r (omega (arith, high, many, all));
+      next = λ r here. subst (λ (k : ℕ). records (files (journal_file k r)) ≡ Some []) drawn (unbegun r (omega (arith, here, many)));
+    };
+    instance = durable_kept w x INSTANCE (files INSTANCE) lawful_x second (durable_kept v w INSTANCE (files INSTANCE) lawful_w first durable);
+    journals = λ r here. subst (λ (k : ℕ). AreDurable x r k files) newest
+        (λ h least most. durable_kept w x (journal_file h r) (files (journal_file h r)) lawful_x second (kept r (omega (arith, here, many)) h least most));
+    next = λ r here. subst (λ (k : ℕ). IsDurable x (journal_file k r) (files (journal_file k r))) drawn (kept_next r (omega (arith, here, many)));
+  },
+  have.are,
+  have.ordered,
+)

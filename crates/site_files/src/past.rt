@@ -58,7 +58,9 @@ fn read_record<D: Disk>(
     ensures causes { OnErr result (((fault : ℕ) × IsErrOf result (FilesError.Failed fault)) ⊎ ((file : ℕ) × (offset : ℕ) × IsErrOf result (FilesError.NotAFile file offset)) ⊎ IsErrOf result FilesError.NoMemory) }
 {
     let PlacedSign {
-        generation, offset, ..
+        generation,
+        offset,
+        ..
     } = *placed;
     if generation > LAST_GENERATION {
         return Err(FilesError::NotAFile {
@@ -132,17 +134,14 @@ fn read_region<D: Disk>(
 }
 
 /// Adds the records of a region to a list.
-fn add_region(
-    regions: &mut Vec<Vec<PlacedRecord>>,
-    read: Vec<PlacedRecord>,
-) -> Result<(), NoMemory>
+fn add_region(regions: &mut Vec<Vec<PlacedRecord>>, read: Vec<PlacedRecord>) -> Result<(), NoMemory>
     ensures { OnOk result (regions.new.items ≡ regions.old.items ++ read ∷ []) }
 {
     regions.push(read)?;
     Ok(())
 }
 
-/// The parts of each region past a length, by the signs of their records. Other records aren't read.
+/// The parts of each region past so many entries, by the signs of their records. Other records aren't read.
 ///
 /// # Errors
 /// `NotAFile`, with the file and the place of a part, only where the files don't have there what its sign says.
@@ -150,11 +149,11 @@ pub fn read_past<D: Disk>(
     alloc: Global,
     disk: &mut D,
     signs: &[Vec<PlacedSign>],
-    length: u64,
+    count: u64,
 ) -> Result<Vec<Vec<PlacedRecord>>, FilesError>
     requires { length signs.now ≤ 8 }
     ensures read { IfOk result (λ made. IfSome (D.disk disk.old).content (λ files. (journal : ℕ → List Placed) → AreSigns files (map (λ s. s.items) signs.now) journal
-        → (r : ℕ) → journal_of (map (λ j. j.items) made.items) r ≡ all_past length (journal r))) }
+        → (r : ℕ) → journal_of (map (λ j. j.items) made.items) r ≡ all_past count (journal r))) }
     ensures outside { (file offset : ℕ) → IsErrOf result (FilesError.NotAFile file offset) → IfSome (D.disk disk.old).content (λ files. (journal : ℕ → List Placed) → AreSigns files (map (λ s. s.items) signs.now) journal → ⊥) }
     ensures reads { Reads (D.disk disk.old) (D.disk disk.new) }
     ensures later { (D.disk disk.old).faults ≤ (D.disk disk.new).faults }
@@ -164,7 +163,7 @@ pub fn read_past<D: Disk>(
 {
     let mut made = Vec::new(alloc);
     for region in 0..signs.len() {
-        let read = read_region(alloc, disk, region as u8, &signs[region], length)?;
+        let read = read_region(alloc, disk, region as u8, &signs[region], count)?;
         add_region(&mut made, read)?;
     }
     Ok(made)

@@ -46,11 +46,7 @@ fn in_index(error: IndexError, fault: u64) -> FilesError
 }
 
 /// The index of the entries for which a site's records stand.
-fn index_of<D: Disk>(
-    alloc: Global,
-    disk: &mut D,
-    read: &ReadSite,
-) -> Result<EntryIndex, FilesError>
+fn index_of<D: Disk>(alloc: Global, disk: &mut D, read: &ReadSite) -> Result<EntryIndex, FilesError>
     ensures sequence { IfOk result (λ made. IfSome (D.disk disk.old).content (λ files. (journal : ℕ → List Placed) → AreSigns files (map (λ s. s.items) read.now.signs.items) journal
         → (seq : Sequence) × IsSequence (record { instance = read.now.log.records; journal = journal }) seq × Indexes (InFiles files) (reigns read.now.log.records) made seq)) }
     ensures regions { IfOk result (λ made. made.regions ≡ length read.now.signs.items) }

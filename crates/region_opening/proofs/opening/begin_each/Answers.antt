@@ -1,6 +1,5 @@
-use Rattle.std.proofs.Common.{◌≡◌, ◌∙◌, ◌+◌, ◌<◌, ℕ, List, Vec, Global, [], ◌∷◌, ◌++◌, length, map, slice_get, Some, None, IfSome, refl, sym, ap, subst, arith, length-append}
+use Rattle.std.proofs.Common.{◌≡◌, ◌∙◌, ◌+◌, ◌<◌, ℕ, List, Vec, Global, [], ◌∷◌, ◌++◌, length, map, slice_get, Some, None, IfSome, sym, ap, subst, arith, length-append}
 use Rattle.std.specs.Prelude.{slice_index}
-use Rattle.std.proofs.lemmas.List.{get_or_past}
 use Rattle.std.proofs.lemmas.Result.{err_from_is_err_and}
 use Rattle.disk_defs.proofs.Told.{told_at}
 use Rattle.disk_defs.proofs.Frames.{reads_more}
@@ -24,8 +23,8 @@ loop-number-init g c =
     let instance = c.args.instance.now in
     let t = c.args.target in
     let signs = map (λ (s : Vec PlacedSign Global). s.items) c.args.signs.now in
-    let regions = c.new-all-regions.ensures.items in
-    let from = c.new-all-from.ensures.items in
+    let regions = c.new.ensures.items in
+    let from = c.new-2.ensures.items in
     record {
       count = ap length regions;
       numbers = ap length from;
@@ -33,7 +32,7 @@ loop-number-init g c =
       begun = λ r s here. let gone : None ≡ Some s = ap (λ (rs : List Standing). slice_get rs r) (sym regions) ∙ here in cc;
       first = λ r none. ap (λ (ns : List ℕ). slice_index ns r) from;
       held = subst (λ (rs : List Standing). IfSome u.content (AreHeld u.content instance t signs rs)) (sym regions) (none_held u.content instance t signs);
-      back = subst (λ (rs : List Standing). IfSome u.content (AreGoneBack u.content instance t signs rs c.new-all-from.result.items)) (sym regions)
+      back = subst (λ (rs : List Standing). IfSome u.content (AreGoneBack u.content instance t signs rs c.new-2.result.items)) (sym regions)
           (subst (λ (ns : List ℕ). IfSome u.content (AreGoneBack u.content instance t signs [] ns)) (sym from) (none_back u.content instance t signs));
       reads = reads_none u;
       faults = omega arith;

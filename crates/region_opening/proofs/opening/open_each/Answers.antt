@@ -1,4 +1,4 @@
-use Rattle.std.proofs.Common.{◌≡◌, ◌∙◌, ◌≤◌, ℕ, List, Vec, Global, length, map, IfSome, sym, ap, subst, arith}
+use Rattle.std.proofs.Common.{◌∙◌, ◌≤◌, List, Vec, Global, length, map, IfSome, sym, ap, subst, arith}
 use Rattle.std.specs.List.{AllByRecursion}
 use Rattle.std.proofs.lemmas.Result.{err_from_is_err_and}
 use Rattle.disk_defs.proofs.Told.{told_at}
@@ -40,7 +40,7 @@ returns-clause-count g c =
     let from = begun.from.items in
     let ms = c.replay.new.regions.items in
     let become : AreBecome (IsGivenUpTo o (reigns instance) index (patterns instance) from t) (length rs) rs ms =
-    become_as o v c.args.history.now (reigns instance) index c.args.directory.now.patterns (patterns instance) c.deref.result.now from t (length rs) rs ms c.begin_each.ensures.reads.content c.requires.history c.requires.patterns c.deref.ensures.value c.in_ok-replay.ensures in
+    become_as o v c.args.history.now (reigns instance) index c.args.directory.now.patterns (patterns instance) c.deref.result.now from t (length rs) rs ms c.begin_each.ensures.reads.content c.requires.history c.requires.patterns c.deref.ensures.value c.in_ok-replay.ensures.made in
     become.count ∙ call.count
 
 pub returns-clause-own : goal.returns-clause-own
@@ -57,7 +57,7 @@ returns-clause-own g c =
     let from = begun.from.items in
     let ms = c.replay.new.regions.items in
     let become : AreBecome (IsGivenUpTo o (reigns instance) index (patterns instance) from t) (length rs) rs ms =
-    become_as o v c.args.history.now (reigns instance) index c.args.directory.now.patterns (patterns instance) c.deref.result.now from t (length rs) rs ms c.begin_each.ensures.reads.content c.requires.history c.requires.patterns c.deref.ensures.value c.in_ok-replay.ensures in
+    become_as o v c.args.history.now (reigns instance) index c.args.directory.now.patterns (patterns instance) c.deref.result.now from t (length rs) rs ms c.begin_each.ensures.reads.content c.requires.history c.requires.patterns c.deref.ensures.value c.in_ok-replay.ensures.made in
     all_own o instance signs index t from rs ms become call.begun
 
 pub returns-clause-held : goal.returns-clause-held
@@ -74,7 +74,7 @@ returns-clause-held g c =
     let from = begun.from.items in
     let ms = c.replay.new.regions.items in
     let become : AreBecome (IsGivenUpTo o (reigns instance) index (patterns instance) from t) (length rs) rs ms =
-    become_as o v c.args.history.now (reigns instance) index c.args.directory.now.patterns (patterns instance) c.deref.result.now from t (length rs) rs ms c.begin_each.ensures.reads.content c.requires.history c.requires.patterns c.deref.ensures.value c.in_ok-replay.ensures in
+    become_as o v c.args.history.now (reigns instance) index c.args.directory.now.patterns (patterns instance) c.deref.result.now from t (length rs) rs ms c.begin_each.ensures.reads.content c.requires.history c.requires.patterns c.deref.ensures.value c.in_ok-replay.ensures.made in
     all_held o instance signs index t from rs ms become call.held
 
 pub returns-clause-anew : goal.returns-clause-anew
@@ -91,7 +91,7 @@ returns-clause-anew g c =
     let from = begun.from.items in
     let ms = c.replay.new.regions.items in
     let become : AreBecome (IsGivenUpTo o (reigns instance) index (patterns instance) from t) (length rs) rs ms =
-    become_as o v c.args.history.now (reigns instance) index c.args.directory.now.patterns (patterns instance) c.deref.result.now from t (length rs) rs ms c.begin_each.ensures.reads.content c.requires.history c.requires.patterns c.deref.ensures.value c.in_ok-replay.ensures in
+    become_as o v c.args.history.now (reigns instance) index c.args.directory.now.patterns (patterns instance) c.deref.result.now from t (length rs) rs ms c.begin_each.ensures.reads.content c.requires.history c.requires.patterns c.deref.ensures.value c.in_ok-replay.ensures.made in
     let some : 1 ≤ index.regions = omega (arith, c.requires.regions, c.regions.ensures.count, c.regions.ensures.some) in
     all_anew o instance signs index t from rs ms become some c.requires.target call.begun call.first
 
@@ -109,7 +109,7 @@ returns-clause-opened g c =
     let from = begun.from.items in
     let ms = c.replay.new.regions.items in
     let become : AreBecome (IsGivenUpTo o (reigns instance) index (patterns instance) from t) (length rs) rs ms =
-    become_as o v c.args.history.now (reigns instance) index c.args.directory.now.patterns (patterns instance) c.deref.result.now from t (length rs) rs ms c.begin_each.ensures.reads.content c.requires.history c.requires.patterns c.deref.ensures.value c.in_ok-replay.ensures in
+    become_as o v c.args.history.now (reigns instance) index c.args.directory.now.patterns (patterns instance) c.deref.result.now from t (length rs) rs ms c.begin_each.ensures.reads.content c.requires.history c.requires.patterns c.deref.ensures.value c.in_ok-replay.ensures.made in
     let some : 1 ≤ index.regions = omega (arith, c.requires.regions, c.regions.ensures.count, c.regions.ensures.some) in
     all_opened o instance signs index t from rs ms become some c.requires.target call.begun call.gone_back
 

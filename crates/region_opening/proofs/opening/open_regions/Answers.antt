@@ -1,4 +1,4 @@
-use Rattle.std.proofs.Common.{◌≡◌, ◌∙◌, ◌≤◌, List, Vec, Global, [], length, map, true, sym, subst, arith}
+use Rattle.std.proofs.Common.{◌≡◌, ◌∙◌, ◌≤◌, List, Vec, Global, [], map, true, sym, subst, arith}
 use Rattle.std.proofs.lemmas.Result.{err_from_is_err_and}
 use Rattle.jnl_index.specs.declared.placed.PlacedSign.{PlacedSign}
 use Rattle.journal_defs.specs.Directory.{Pattern, patterns}

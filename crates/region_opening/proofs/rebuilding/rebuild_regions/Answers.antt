@@ -13,20 +13,12 @@ use Rattle.region_store.specs.declared.error.RegionError.TheVariants.{NotAFile}
 use Rattle.region_store.proofs.Handed.{handed_on}
 use Rattle.site_regions.specs.Joined.{joined}
 use Rattle.region_opening.specs.Opening.{are_home}
-use Rattle.region_opening.proofs.Opened.{AreGivenRefused, have_parts, counted, anew_parts, anew_state, anew_told, files_are, held_told}
+use Rattle.region_opening.proofs.Opened.{AreGivenRefused, have_parts, anew_parts, anew_state, anew_told, files_are, held_told}
 use Rattle.region_opening.proofs.rebuilding.rebuild_regions.Goals as goal
 use Rattle.entry_index.specs.Parts.{InFiles}
 
 pub open_each-requires-clause-target : goal.open_each-requires-clause-target
-open_each-requires-clause-target g c =
-    let o = (g.D.Disk.disk c.args.disk.now).content in
-    let instance = c.args.instance.now in
-    let index = c.args.entries.now in
-    let some : 1 ≤ index.regions = omega (arith, c.requires.regions, c.regions.ensures.count, c.regions.ensures.some) in
-    let t = c.len-target.result in
-    let all : t ≡ entry_count index = counted index t some (c.len-target.ensures.rows some) in
-    let empty : map (λ (s : Vec PlacedSign Global). s.items) c.deref.result.now ≡ [] = ap (map (λ (s : Vec PlacedSign Global). s.items)) (c.deref.ensures.value ∙ c.new-signs.ensures.items) in
-    omega (arith, all)
+open_each-requires-clause-target g c = let all : c.len-target.result ≡ entry_count c.args.entries.now = c.len-target.ensures.count in omega (arith, all)
 
 pub new-requires-clause-parts : goal.new-requires-clause-parts
 new-requires-clause-parts g c = have_parts c.args.directory.patterns c.in_ok-regions.regions.items (λ r s here.
@@ -42,7 +34,7 @@ returns-clause-state g c =
     let index = c.args.entries.now in
     let some : 1 ≤ index.regions = omega (arith, c.requires.regions, c.regions.ensures.count, c.regions.ensures.some) in
     let t = c.len-target.result in
-    let all : t ≡ entry_count index = counted index t some (c.len-target.ensures.rows some) in
+    let all : t ≡ entry_count index = c.len-target.ensures.count in
     let empty : map (λ (s : Vec PlacedSign Global). s.items) c.deref.result.now ≡ [] = ap (map (λ (s : Vec PlacedSign Global). s.items)) (c.deref.ensures.value ∙ c.new-signs.ensures.items) in
     let rs = c.in_ok-regions.regions.items in
     let told : (r : ℕ) (s : Standing) → slice_get rs r ≡ Some s → IfSome o (λ files. (seq : Sequence) → Indexes (InFiles files) (reigns instance) index seq → s.globals ≡ region_state (patterns instance) r (take t seq)) =
@@ -56,7 +48,7 @@ returns-clause-parts g c =
     let index = c.args.entries.now in
     let some : 1 ≤ index.regions = omega (arith, c.requires.regions, c.regions.ensures.count, c.regions.ensures.some) in
     let t = c.len-target.result in
-    let all : t ≡ entry_count index = counted index t some (c.len-target.ensures.rows some) in
+    let all : t ≡ entry_count index = c.len-target.ensures.count in
     let empty : map (λ (s : Vec PlacedSign Global). s.items) c.deref.result.now ≡ [] = ap (map (λ (s : Vec PlacedSign Global). s.items)) (c.deref.ensures.value ∙ c.new-signs.ensures.items) in
     let rs = c.in_ok-regions.regions.items in
     let told : (r : ℕ) (s : Standing) → slice_get rs r ≡ Some s → IfSome o (λ files. (seq : Sequence) → Indexes (InFiles files) (reigns instance) index seq → s.globals ≡ region_state (patterns instance) r (take t seq)) =
@@ -73,7 +65,7 @@ returns-in_err-regions-clause-outside g c =
     let index = c.args.entries.now in
     let some : 1 ≤ index.regions = omega (arith, c.requires.regions, c.regions.ensures.count, c.regions.ensures.some) in
     let t = c.len-target.result in
-    let all : t ≡ entry_count index = counted index t some (c.len-target.ensures.rows some) in
+    let all : t ≡ entry_count index = c.len-target.ensures.count in
     let empty : map (λ (s : Vec PlacedSign Global). s.items) c.deref.result.now ≡ [] = ap (map (λ (s : Vec PlacedSign Global). s.items)) (c.deref.ensures.value ∙ c.new-signs.ensures.items) in
     let p = err_from_is_err_and c.from_residual.result c.from_residual.ensures.1 in
     rw (p.1, p.2) (λ f offset is.

@@ -13,7 +13,7 @@ invariant-loop-region g l =
     let v = view l.disk in
     record {
       read : IfSome u.content (λ files. (journal : ℕ → List Placed) → AreSigns files (map (λ s. s.items) l.signs) journal
-          → (r : ℕ) → r < l.region → journal_of (map (λ j. j.items) l.made.items) r ≡ all_past l.fn.length (journal r));
+          → (r : ℕ) → r < l.region → journal_of (map (λ j. j.items) l.made.items) r ≡ all_past l.fn.count (journal r));
       many : length l.made.items ≡ l.region;
       reads : Reads u v;
       faults : u.faults ≤ v.faults;

@@ -1,5 +1,4 @@
-use Rattle.std.proofs.Common.{◌≡◌, ℕ, ◌≤◌, ap, arith, Err}
-use Rattle.disk_defs.specs.Disk.{Files}
+use Rattle.std.proofs.Common.{◌≡◌, ◌≤◌, ap, arith, Err}
 use Rattle.disk_defs.proofs.Told.{weaker_told}
 use Rattle.jnl_file.proofs.Newer.{all_told}
 use Rattle.journal_defs.specs.Journal.{JournalRecord}

@@ -1,12 +1,14 @@
-use Rattle.std.proofs.Common.{◌+◌, ◌≤◌, ◌<◌, ℕ, List, Vec, Global, refl, sym, ◌∙◌, subst, arith}
+use Rattle.std.proofs.Common.{rules, ◌+◌, ◌≤◌, ◌<◌, ℕ, List, Vec, Global, refl, sym, ◌∙◌, subst, arith}
 use Rattle.std.proofs.lemmas.Result.{err_from_is_err_and}
 use Rattle.disk_defs.specs.Disk.{Image}
-use Rattle.disk_defs.proofs.Moments.{nothing_new}
+use Rattle.disk_defs.proofs.Moments.{nothing_new, started}
+use Rattle.jnl_file.proofs.Newer.{all_told}
 use Rattle.jnl_index.specs.declared.placed.PlacedSign.{PlacedSign}
 use Rattle.site_files.specs.Loading.{last_of}
+use Rattle.site_files.specs.Reading.{AreAllDurable}
 use Rattle.site_files.specs.declared.error.FilesError.TheVariants.{NotAFile}
 use Rattle.site_files.proofs.Errors.{handed_on, causes_on}
-use Rattle.site_files.proofs.RegionsRead.{told_none, told_outside, told_more, one_longer, began_more, told_durable}
+use Rattle.site_files.proofs.RegionsRead.{none_read, none_began, told_none, told_outside, told_more, one_longer, began_more, told_durable}
 use Rattle.site_files.proofs.reading.read_regions.Goals as goal
 
 pub returns-in_err-read-clause-outside : goal.returns-in_err-read-clause-outside
@@ -32,6 +34,22 @@ pub returns-in_err-read-clause-causes : goal.returns-in_err-read-clause-causes
 returns-in_err-read-clause-causes g c =
     let p = err_from_is_err_and c.from_residual.result c.from_residual.ensures.1 in
     rw (p.1, p.2) (causes_on c.in_err-read.field-0.0 c.in_err-read.ensures.causes)
+
+pub loop-region-init : goal.loop-region-init
+loop-region-init g c =
+    let a = c.args in
+    let u = g.D.Disk.disk a.disk.now in
+    record {
+      read = none_read (λ (j : Vec PlacedSign Global). j.items) u.content a.last c.new-last_began.result.items c.new-signs.result.items c.new-signs.ensures.items;
+      many = search rules;
+      many_last = search rules;
+      began = λ r. none_began c.new-last_began.result.items a.last r c.new-last_began.ensures.items;
+      durable = all_told u.content (AreAllDurable u 0 a.last) (λ files r low. absurd (omega (arith, low)));
+      content = refl;
+      moments = started u (Image u) (λ files now. now);
+      simulated = refl;
+      faults = omega arith;
+    }
 
 pub loop-region-preserved : goal.loop-region-preserved
 loop-region-preserved g c =

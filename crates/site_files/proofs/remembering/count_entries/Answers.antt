@@ -10,7 +10,7 @@ use Rattle.entry_index.specs.Indexes.{AreSigns, Indexes}
 use Rattle.entry_index.specs.Parts.{InFiles}
 use Rattle.site_files.specs.declared.error.FilesError.TheVariants.{NotAFile}
 use Rattle.site_files.proofs.Errors.{handed_on, causes_on}
-use Rattle.site_files.proofs.Counts.{counted_as, counted}
+use Rattle.site_files.proofs.Counts.{counted}
 use Rattle.site_files.proofs.remembering.count_entries.Goals as goal
 
 pub returns-in_err-entries-clause-outside : goal.returns-in_err-entries-clause-outside
@@ -36,5 +36,5 @@ returns-clause-counted g c =
     let s = found u.journal are in (
       s.0,
       subst (λ (is : List InstanceRecord). IsSequence (record { instance = is; journal = u.journal }) s.0) (sym same) s.1,
-      sym (counted_as made n c.len.ensures.rows c.len.ensures.none) ∙ counted files rs made s.0 s.2,
+      c.len.ensures.count ∙ counted files rs made s.0 s.2,
     ))

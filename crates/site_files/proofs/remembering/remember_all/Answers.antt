@@ -1,4 +1,4 @@
-use Rattle.std.proofs.Common.{◌≡◌, ◌<◌, ◌^◌, ℕ, List, Vec, Global, length, map, sym, ◌∙◌, subst, arith}
+use Rattle.std.proofs.Common.{◌≡◌, ℕ, List, Vec, Global, length, map, sym, ◌∙◌, subst, arith}
 use Rattle.std.proofs.lemmas.Result.{err_from_is_err_and}
 use Rattle.std.proofs.lemmas.List.{length-map}
 use Rattle.disk_defs.specs.Disk.{Files}
@@ -18,7 +18,7 @@ use Rattle.entry_index.specs.Parts.{InFiles}
 use Rattle.entry_index.proofs.AmongLaws.{index_among}
 use Rattle.site_files.specs.declared.error.FilesError.TheVariants.{NotAFile}
 use Rattle.site_files.proofs.Errors.{handed_on, causes_on}
-use Rattle.site_files.proofs.Counts.{counted_as, counted, is_found}
+use Rattle.site_files.proofs.Counts.{counted, is_found}
 use Rattle.site_files.proofs.remembering.remember_all.Goals as goal
 
 pub returns-in_err-entries-clause-outside : goal.returns-in_err-entries-clause-outside
@@ -57,7 +57,7 @@ returns-clause-reads g c =
 
 pub returns-clause-few : goal.returns-clause-few
 returns-clause-few g c =
-    let many : entry_count c.in_ok-entries.entries ≡ c.len-length.result = counted_as c.in_ok-entries.entries c.len-length.result c.len-length.ensures.rows c.len-length.ensures.none in
+    let many : entry_count c.in_ok-entries.entries ≡ c.len-length.result = sym c.len-length.ensures.count in
     omega (arith, many)
 
 pub returns-clause-found : goal.returns-clause-found
@@ -78,7 +78,7 @@ returns-clause-found g c =
     c.in_ok-entries.ensures.sequence (told_at o (view c.index_of.new.disk).content Text c.index_of.ensures.reads.content c.in_ok-broken.ensures.text)
     (λ files found told u same held are ordered.
     let s = found u.journal are in
-    let many : n ≡ length s.0 = sym (counted_as made n c.len-length.ensures.rows c.len-length.ensures.none) ∙ counted files rs made s.0 s.2 in (
+    let many : n ≡ length s.0 = c.len-length.ensures.count ∙ counted files rs made s.0 s.2 in (
       s.0,
       is_found files rs signs made u s.0 same held are s.1 s.2,
       index_among files rs signs u.journal are ordered (reigns rs) made s.0 (c.in_ok-entries.ensures.regions ∙ sym (length-map lists (λ (s : Vec PlacedSign Global). s.items))) c.in_ok-entries.ensures.placed s.2,
