@@ -47,10 +47,10 @@ loop-place-preserved g c =
     }
 
 pub returns-in_err-extract-clause-outside : goal.returns-in_err-extract-clause-outside
-returns-in_err-extract-clause-outside g c file offset is x h open =
+returns-in_err-extract-clause-outside g c file offset is x h opened =
     let view = g.D.Disk.disk in
     let failed : IsErrOf c.extract.result (NotAFile file offset) = search (rules, is) in
-    c.extract.ensures.outside file offset failed x h (open_read (view c.args.disk.now) (view c.loop-place.disk) true x h c.args.site.now c.loop-place.invariant.reads open)
+    c.extract.ensures.outside file offset failed x h (open_read (view c.args.disk.now) (view c.loop-place.disk) true x h c.args.site.now c.loop-place.invariant.reads opened)
 
 pub returns-in_err-extract-clause-reads : goal.returns-in_err-extract-clause-reads
 returns-in_err-extract-clause-reads g c =
