@@ -46,7 +46,7 @@ returns-in-Ok-clause-done g c =
 
 pub returns-in_err-push_all-in-Ok-clause-cut_off : goal.returns-in_err-push_all-in-Ok-clause-cut_off
 returns-in_err-push_all-in-Ok-clause-cut_off g c =
-    err_holds c.from_residual.result _ (read_cut (rows.extract c.args.number c.args.site.now.name) (g.D.Disk.disk c.args.disk.now) (g.D.Disk.disk c.write_entries.new.disk) c.args.site.now c.in-Ok.ensures.reads c.in-Ok.ensures.later)
+    err_holds c.from_residual-in_err-push_all-in-Ok.result _ (read_cut (rows.extract c.args.number c.args.site.now.name) (g.D.Disk.disk c.args.disk.now) (g.D.Disk.disk c.write_entries.new.disk) c.args.site.now c.in-Ok.ensures.reads c.in-Ok.ensures.later)
 
 pub returns-in-Err-Failed-clause-done : goal.returns-in-Err-Failed-clause-done
 returns-in-Err-Failed-clause-done g c =
