@@ -1,6 +1,7 @@
 //! Regions that are made anew from the entries alone.
 ghost use Rattle.std.specs.Prelude.{◌≡◌, ◌<◌, ◌≤◌, ℕ, List, length, IfOk, IfSome, IsErrOf};
 ghost use Rattle.std.specs.List.{AllByRecursion};
+ghost use Rattle.std.specs.FinMap as globals;
 ghost use Rattle.disk_defs.specs.Disk.{Reads, Rose};
 ghost use Rattle.global_defs.specs.Entry.{Sequence, state};
 ghost use Rattle.journal_defs.specs.Numbers.{database_file};
@@ -10,7 +11,7 @@ ghost use Rattle.journal_defs.specs.Sequence.{Records};
 ghost use Rattle.jnl_index.specs.declared.placed.PlacedSign.{PlacedSign};
 ghost use Rattle.region_store.specs.Region.{IsHeld};
 ghost use Rattle.site_regions.specs.Joined.{joined, ArePartsOf, region_at};
-ghost use Rattle.entry_index.specs.Found.{AreFound};
+ghost use Rattle.entry_index.specs.Found.{AreFound, entry_count};
 
 use super::opening::open_each;
 use entry_index::EntryIndex;
@@ -43,6 +44,8 @@ pub fn rebuild_regions<D: Disk>(
     ensures patterns { IfOk result (λ made. made.patterns ≡ directory.patterns) }
     ensures count { IfOk result (λ made. length made.regions ≡ directory.regions) }
     ensures files { IfOk result (λ made. (r : ℕ) → r < length made.regions → (region_at made r).file ≡ database_file r) }
+    ensures none { IfOk result (λ made. entry_count entries.now ≡ 0 → joined made ≡ globals.empty) }
+    ensures some { IfOk result (λ made. (seq : Sequence) × (joined made ≡ state seq)) }
     // all nodes are the state of the entries, whatever the blocks are
     ensures state { IfOk result (λ made. IfSome (D.disk disk.old).content (λ files. (signs : List (List PlacedSign)) (u : Records) (seq : Sequence) → AreFound files instance.now signs entries.now u seq → joined made ≡ state seq)) }
     // and each region has its part

@@ -423,7 +423,7 @@ open_begun v w told c old new r lawful b entries changed hardened journals is =
         globals = ap joined changed ∙ is.remembered.globals;
         hardened = hardened ∙ is.remembered.hardened;
       };
-          kept = λ t.
+      kept = λ t.
           let k = is.kept t in
           keeps_begun v w c old new k (past_in c (length c.sequence) old is.remembered b.past) lawful b.stays (journals_away v old b.ready) (subst (λ (l : List InstanceRecord). 0 < length l) is.remembered.instance b.created)
           (subst (λ (x : Reign). instances.HasRecords w new.instance (c.instance ++ Reigned x ∷ [])) same (b.state c.instance k.instance_file)) journals entries changed;

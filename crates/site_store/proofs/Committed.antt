@@ -17,7 +17,7 @@ use Rattle.global_defs.specs.Evaluation.{MOST_NODES}
 use Rattle.global_defs.specs.Prefix.{stamp_at}
 use Rattle.gvn_model.specs.declared.entry.Transaction as code
 use Rattle.gvn_model.specs.declared.reign.Stamp as code_stamp
-use Rattle.gvn_model.specs.Entries.{transaction_value, entry_value}
+use Rattle.gvn_model.specs.Entries.{transaction_value}
 use Rattle.gvn_model.specs.Reigns.{stamp_value}
 use Rattle.journal_defs.specs.Numbers.{INSTANCE, journal_file, database_file}
 use Rattle.journal_defs.specs.Journal.{JournalRecord, Part}
@@ -49,22 +49,21 @@ use Rattle.site_store.specs.Finding.{HasLayout}
 use Rattle.site_regions.specs.Joined.{joined, AreChanged}
 use Rattle.site_store.specs.Site.{Remembers, IsReady, AreHeld, Keeps, IsOpen, HasReign, HasRoomFor, AreOnBlocks, with_entry, count_of}
 use Rattle.site_store.proofs.OnBlocks.{on_same}
-use Rattle.site_store.proofs.HeldRegions.{held_stays, held_changed, no_journal, changed_not, synced_stays}
-use Rattle.site_store.specs.Committing.{Enters, IsSameSite, IsSameMemory, IsOwnJournal, ArePartsOf, parts_of, AddsPlaces}
+use Rattle.site_store.proofs.HeldRegions.{held_stays, held_changed, no_journal, synced_stays}
+use Rattle.site_store.specs.Committing.{IsSameSite, IsSameMemory, IsOwnJournal, ArePartsOf, parts_of, AddsPlaces, IsSameIndex}
 use Rattle.site_store.proofs.Frames as frames
 use Rattle.site_store.proofs.Remembered.{remembered_length, globals_more}
 use Rattle.site_store.proofs.Standing.{reads_of, reads_so, told_of, still, keeps_images}
 use Rattle.site_store.proofs.Entries as entries
 use Rattle.site_store.proofs.Emptied.{none_left}
-use Rattle.site_store.proofs.Places.{counts_places}
+use Rattle.site_store.proofs.Places.{counts_places, same_self, same_count}
 use Rattle.site_store.proofs.Indexing.{stand_same}
 use Rattle.site_store.proofs.Indexed.{index_entered}
 use Rattle.site_store.proofs.OpenedTo.{one_image}
 use Rattle.journal_laws.proofs.Merging as merging
 use Rattle.site_store.proofs.Newest as newest
 use Rattle.site_store.proofs.Parts.{parts_more}
-use Rattle.entry_index.specs.Found.{entry_count, IsWhole}
-use Rattle.entry_index.specs.declared.index.EntryIndex.{EntryIndex}
+use Rattle.entry_index.specs.Found.{IsWhole}
 
 -- the parts that were appended are those of the transaction
 pub parts_appended : (v : View) (s : OpenSite) (t : Transaction) (parts : PartRecords) (before js : List RegionJournal) (hard waiting : ℕ → List JournalRecord) → length js ≡ length before → length before ≤ 8
@@ -87,7 +86,7 @@ pub record Prepares (v w : View) (old mid : OpenSite) : Type 0 where
   pub ready_after : IsReady w mid
   pub state : (hard waiting : ℕ → List JournalRecord) → KeepsJournals v hard waiting old.journals.journals.items → KeepsJournals w hard waiting mid.journals.journals.items
   pub same : IsSameSite old mid
-  pub entries : mid.entries ≡ old.entries
+  pub entries : IsSameIndex old.entries mid.entries
   pub changed : AreChanged old.globals mid.globals
   pub moments : AtEachMoment v w (Image v)
   pub stays : OthersStay (IsOwnJournal old) v w
@@ -117,7 +116,7 @@ prepares_of v w old mid before ready state same changed moments stays = record {
   ready_after = ready_before v w old mid before ready same.instance;
   state = state;
   same = record { instance = same.instance; layout = same.layout; hardened = same.hardened; stamp = same.stamp };
-  entries = refl;
+  entries = same_self old.entries;
   changed = changed;
   moments = moments;
   stays = stays;
@@ -134,7 +133,7 @@ pub open_prepared : (v w : View) (told : Bool) (c : Contents) (h : ℕ) (old mid
 open_prepared v w told c h old mid p same lawful is = record {
   remembered = record {
     instance = ap (λ (i : Instance). i.records) same.same.instance ∙ is.remembered.instance;
-    count = ap entry_count same.entries ∙ is.remembered.count;
+    count = same_count old.entries mid.entries same.entries ∙ is.remembered.count;
     globals = same.globals ∙ is.remembered.globals;
     hardened = same.same.hardened ∙ is.remembered.hardened;
   };
@@ -256,7 +255,7 @@ remembers_longer v w x c h old mid new t parts p m =
     record {
       instance = ap (λ (i : Instance). i.records) (p.instance ∙ p.prepares.same.instance) ∙ m.instance;
       count = counts_places parts mid.journals.journals.items mid.entries new.entries p.prepares.ready_after.some_place p.prepares.ready_after.whole p.adds
-          ∙ ap (λ (i : EntryIndex). entry_count i + 1) p.prepares.entries ∙ ap (λ (k : ℕ). k + 1) m.count ∙ sym (length-append c.sequence (entry_of p ∷ []));
+          ∙ ap (λ (k : ℕ). k + 1) (same_count old.entries mid.entries p.prepares.entries) ∙ ap (λ (k : ℕ). k + 1) m.count ∙ sym (length-append c.sequence (entry_of p ∷ []));
       globals = globals_more (joined old.globals) (joined new.globals) c.sequence (entry_of p) m.globals p.made;
       hardened = p.hardened ∙ p.prepares.same.hardened ∙ m.hardened;
     }

@@ -1,5 +1,5 @@
 -- A site that was found, and stands.
-use Rattle.std.proofs.Common.{◌≡◌, inr, ℕ, ◌≤◌, Bool, false, List, [], ◌∷◌, ◌++◌, length, take, Option, Some, None, Result, Ok, Err, IfOk, IfSome, refl, sym, ◌∙◌, ap, subst, arith}
+use Rattle.std.proofs.Common.{◌≡◌, inr, ℕ, Bool, false, List, [], ◌∷◌, ◌++◌, length, take, Some, Result, Ok, Err, IfOk, IfSome, sym, ◌∙◌, ap, subst, arith}
 use Rattle.std.proofs.Math.Seq.{take-length}
 use Rattle.disk_defs.specs.Disk.{Files, View, Image, Reads, IsLawful, AtEachMoment}
 use Rattle.disk_defs.proofs.Moments.{read_only}
@@ -43,13 +43,17 @@ found_count v f journal seq files has is = let wide = has.each_place in let some
 
 -- while the disk is only synced or read
 moved_in : (v w : View) (f : FoundFiles) → IsLawful w → AtEachMoment v w (Image v) → (files : Files) → Given v f files → Given w f files
-moved_in v w f lawful run files x = (x.0, x.1, record {
-  read = read_kept (Some files) v w f.read.log.records (last_of f.read.last_began.items) x.0 lawful run x.2.read;
-  found = x.2.found;
-  indexed = x.2.indexed;
-  stand = x.2.stand;
-  broken_is = x.2.broken_is;
-})
+moved_in v w f lawful run files x = (
+  x.0,
+  x.1,
+  record {
+    read = read_kept (Some files) v w f.read.log.records (last_of f.read.last_began.items) x.0 lawful run x.2.read;
+    found = x.2.found;
+    indexed = x.2.indexed;
+    stand = x.2.stand;
+    broken_is = x.2.broken_is;
+  },
+)
 
 pub found_moved : (u v w : View) (f : FoundFiles) → IsLawful w → AtEachMoment v w (Image v) → WasFound u v f → WasFound u w f
 found_moved u v w f lawful run was = record {
@@ -92,7 +96,7 @@ module _ (u v : View) (f : FoundFiles) (was : WasFound u v f) (files : Files) (t
 
 -- open for all entries
 abbrev again : FoundFiles → StandingSite → FoundFiles
-again f k = record { read = record { log = k.log; directory = f.read.directory; signs = f.read.signs; last_began = k.last_began }; entries = k.entries; broken = k.broken }
+again f k = record { read = record { log = k.log; directory = f.read.directory; signs = f.read.signs; last_began = k.last_began; few = f.read.few }; entries = k.entries; broken = k.broken }
 
 -- no region needs forward recovery, by all that the signs say
 abbrev pub NoneNeeds : FoundFiles → ℕ → Type 0
@@ -145,7 +149,7 @@ pub stood_of : (anew : Bool) (u w : View) (f : FoundFiles) (k : StandingSite) �
 stood_of anew u w f k has was opens none stays =
     subst (λ (x : FoundFiles). HasFound x → WasFound u w x → IsOpenAs anew u w x (entry_count x.entries) k.globals → (anew ≡ false → NoneNeeds x (entry_count x.entries))
     → ((n : ℕ) → HasLayout (x.read.log.records ++ next_cut x.read.log.records n ∷ []) k.layout) → Stood anew u w k)
-    (λ i. record { read = record { log = stays.log i; directory = f.read.directory; signs = f.read.signs; last_began = stays.last_began i }; entries = stays.entries i; broken = stays.broken i })
+    (λ i. record { read = record { log = stays.log i; directory = f.read.directory; signs = f.read.signs; last_began = stays.last_began i; few = f.read.few }; entries = stays.entries i; broken = stays.broken i })
     (stood_again anew u w f k) has was opens none stays.layout
 
 pub stood_ok : (anew : Bool) (u v w : View) (f : FoundFiles) (n : ℕ) (o : Result StandingSite SiteError) → IsLawful w → Reads v w → v.content ≡ u.content → HasFound f → WasFound u v f → n ≡ entry_count f.entries

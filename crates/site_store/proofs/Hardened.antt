@@ -10,7 +10,6 @@ use Rattle.journal_defs.specs.Numbers.{journal_file, database_file}
 use Rattle.journal_defs.specs.Journal.{JournalRecord, IsJournalBody}
 use Rattle.journal_defs.specs.Instance.{InstanceRecord, regions}
 use Rattle.journal_defs.specs.Directory.{patterns}
-use Rattle.global_defs.specs.Entry.{Sequence}
 use Rattle.journal_defs.specs.Sequence.{Records}
 use Rattle.journal_defs.specs.Stands.{Holds}
 use Rattle.journal_defs.specs.Growth.{NonePast, AreEntries, tcoms, appended}

@@ -1,13 +1,13 @@
 -- Where the entries of an open site stand.
 use Rattle.std.proofs.Common.{◌≡◌, ℕ, suc, ◌+◌, ◌≤◌, ◌<◌, List, [], ◌∷◌, ◌++◌, length, map, take, Option, Some, None, IfSome, IsSomeAnd, refl, sym, ◌∙◌, ap, subst, arith, append_assoc}
-use Rattle.std.specs.Prelude.{slice_get, get_or, sum_by}
+use Rattle.std.specs.Prelude.{slice_get, sum_by}
 use Rattle.std.specs.List.{AllZip}
 use Rattle.std.proofs.lemmas.List.{map-append}
 use Rattle.std.proofs.Math.Seq.{take-append_seam}
 use Rattle.disk_defs.specs.Disk.{Files, View, Image, IsLawful}
 use Rattle.disk_defs.specs.Gates.{Body, spelled, spelled_with}
 use Rattle.gated_file.specs.State.{ones, shut}
-use Rattle.global_defs.specs.Entry.{Entry, Sequence}
+use Rattle.global_defs.specs.Entry.{Entry}
 use Rattle.global_defs.specs.Prefix.{stamp_at}
 use Rattle.journal_defs.specs.Numbers.{journal_file}
 use Rattle.journal_defs.specs.Journal.{JournalRecord, Tcom, Part, IsJournalBody}
@@ -20,7 +20,7 @@ use Rattle.journal_laws.proofs.Appending.{appended_is}
 use Rattle.jnl_file.specs.Journal as journals
 use Rattle.jnl_index.specs.Places.{StandsAt}
 use Rattle.jnl_index.specs.Order.{size_of, bytes_in, IsAmong, AreLaid}
-use Rattle.jnl_index.proofs.Order.{bytes_append, bytes_own, older_bytes, spelled_size, laid_stands, laid_open, laid_shut, IsOlderOrNewer, Older, Newer, older_or_newer}
+use Rattle.jnl_index.proofs.Order.{bytes_append, bytes_own, older_bytes, spelled_size, laid_stands, laid_open, laid_shut, Older, Newer, older_or_newer}
 use Rattle.tp_commit.specs.Parts.{PartRecords, recorded}
 use Rattle.region_journals.specs.declared.journals.RegionJournal.{RegionJournal}
 use Rattle.region_journals.specs.Journals.{part_in}

@@ -1,11 +1,10 @@
 -- Where entries stand, while reigns begin, a CUT drops none of theirs, and other files change.
-use Rattle.std.proofs.Common.{◌≡◌, ℕ, suc, ◌+◌, ◌*◌, ◌≤◌, ◌<◌, Bool, true, false, List, [], ◌∷◌, ◌++◌, length, refl, sym, ◌∙◌, ap, subst, arith}
+use Rattle.std.proofs.Common.{◌≡◌, ℕ, suc, ◌≤◌, ◌<◌, Bool, true, false, List, [], ◌∷◌, ◌++◌, length, refl, sym, ◌∙◌, ap, subst, arith}
 use Rattle.std.specs.Prelude.{nat_le, Option, Some, None, if◌then◌else◌}
 use Rattle.std.specs.List.{filter}
 use Rattle.std.specs.Option.{option_or}
 use Rattle.std.proofs.lemmas.Bool.Decides.{nat_tests}
-use Rattle.std.proofs.lemmas.Option.{slice_get_within}
-use Rattle.global_defs.specs.Entry.{Reign, Stamp, Entry, Sequence}
+use Rattle.global_defs.specs.Entry.{Reign, Stamp, Sequence}
 use Rattle.global_defs.specs.Prefix.{stamp_at}
 use Rattle.journal_defs.specs.Instance.{InstanceRecord, Reigned, Cut}
 use Rattle.journal_defs.specs.Surviving.{reigns}
@@ -50,7 +49,6 @@ pub index_cut : (journal : ℕ → List Placed) (instance : List InstanceRecord)
     → IsIndexOf journal (reigns instance) index seq → IsIndexOf journal (reigns (instance ++ Cut t g ∷ [])) index seq
 index_cut journal instance t g index seq low is = index_stamps journal (reigns instance) (reigns (instance ++ Cut t g ∷ [])) index seq
     (λ n below. ap (stamp_at (suc n)) (runs.reigns-cut instance t g) ∙ stamp_filter (suc n) t (reigns instance) (omega (arith, below, low))) is
-
 
 -- files that are the same up to a generation
 pub stand_same : (old new : Files) (r h : ℕ) (js : List Placed) → ((n : ℕ) → n ≤ h → new (journal_file n r) ≡ old (journal_file n r)) → StandUpTo old r h js → StandUpTo new r h js

@@ -1,5 +1,5 @@
 -- A site is opened.
-use Rattle.std.proofs.Common.{◌≡◌, inl, ℕ, zero, suc, ◌+◌, ◌≤◌, ◌<◌, ◌^◌, Bool, true, false, List, [], ◌∷◌, ◌++◌, length, map, Option, Some, None, IfSome, refl, sym, ◌∙◌, ap, subst, arith, append-nil}
+use Rattle.std.proofs.Common.{◌≡◌, inl, ℕ, zero, suc, ◌+◌, ◌≤◌, ◌<◌, Bool, true, false, List, [], ◌∷◌, ◌++◌, length, map, Option, Some, None, IfSome, refl, sym, ◌∙◌, ap, subst, arith, append-nil}
 use Rattle.std.specs.Prelude.{◌^◌, filter, nat_le, fold, replicate, slice_get, if◌then◌else◌}
 use Rattle.std.specs.List.{AllByRecursion, flat_map}
 use Rattle.std.proofs.lemmas.Bool.Decides.{nat_tests}
@@ -48,24 +48,25 @@ use Rattle.jnl_index.specs.Order.{StandUpTo}
 
 -- what was opened is what any records of the files stand for
 pub opened_from : (o : Option Files) (v : View) (rs : List InstanceRecord) (last : ℕ → ℕ) (journal : ℕ → List Placed) (seq : Sequence) (s : OpenSite) → IfSome o (WasRead v rs last journal) → IsSequence (record { instance = rs; journal = journal }) seq
-    → count_of s ≡ length seq → s.instance.records ≡ rs ++ next_cut rs (length seq) ∷ []
+    → count_of s ≡ length seq → s.instance.records ≡ rs ++ next_cut rs (length seq) ∷ [] → IsIndexOf journal (reigns rs) s.entries seq
     → IfSome o (λ files. (u : Records) (other : Sequence) → AreRecords files u → IsSequence u other → WasOpenedFrom u other s)
-opened_from o v rs last journal seq s read sequence count records = weaker_told o (WasRead v rs last journal) (λ files. (u : Records) (other : Sequence) → AreRecords files u → IsSequence u other → WasOpenedFrom u other s) read (λ files was u other held is.
+opened_from o v rs last journal seq s read sequence count records indexed = weaker_told o (WasRead v rs last journal) (λ files. (u : Records) (other : Sequence) → AreRecords files u → IsSequence u other → WasOpenedFrom u other s) read (λ files was u other held is.
     let own : Records = record { instance = rs; journal = journal } in
     let same = records_one files u own held (held_read rs last journal files was.holds) in
     let seqs : other ≡ seq = runs.one own other seq (subst (λ (x : Records). IsSequence x other) same is) sequence in
     let first : u.instance ≡ rs = ap (λ (x : Records). x.instance) same in
     record {
       count = count ∙ ap length (sym seqs);
+      indexed = subst (λ (q : Sequence). IsIndexOf u.journal (reigns u.instance) s.entries q) (sym seqs) (subst (λ (x : Records). IsIndexOf x.journal (reigns x.instance) s.entries seq) (sym same) indexed);
       instance = records ∙ ap (λ (l : List InstanceRecord). l ++ next_cut l (length seq) ∷ []) (sym first) ∙ ap (λ (q : Sequence). u.instance ++ next_cut u.instance (length q) ∷ []) (sym seqs);
     })
 
 -- and what was read is such records
 pub held_from : (P : Records → Sequence → Type 0) (o : Option Files) (v : View) (rs : List InstanceRecord) (last : ℕ → ℕ) (journal : ℕ → List Placed) (seq : Sequence) (s : OpenSite) → IfSome o (WasRead v rs last journal) → IsSequence (record { instance = rs; journal = journal }) seq
-    → count_of s ≡ length seq → s.instance.records ≡ rs ++ next_cut rs (length seq) ∷ []
+    → count_of s ≡ length seq → s.instance.records ≡ rs ++ next_cut rs (length seq) ∷ [] → IsIndexOf journal (reigns rs) s.entries seq
     → P (record { instance = rs; journal = journal }) seq → IfSome o (λ files. (u : Records) × (other : Sequence) × AreRecords files u × IsSequence u other × WasOpenedFrom u other s × P u other)
-held_from P o v rs last journal seq s read sequence count records is = weaker_told o (WasRead v rs last journal) (λ files. (u : Records) × (other : Sequence) × AreRecords files u × IsSequence u other × WasOpenedFrom u other s × P u other) read (λ files was.
-    (record { instance = rs; journal = journal }, seq, held_read rs last journal files was.holds, sequence, record { count = count; instance = records }, is))
+held_from P o v rs last journal seq s read sequence count records indexed is = weaker_told o (WasRead v rs last journal) (λ files. (u : Records) × (other : Sequence) × AreRecords files u × IsSequence u other × WasOpenedFrom u other s × P u other) read (λ files was.
+    (record { instance = rs; journal = journal }, seq, held_read rs last journal files was.holds, sequence, record { count = count; indexed = indexed; instance = records }, is))
 
 -- nothing was written
 abbrev pub Moments : (anew : Bool) → View → View → Files → Type 0

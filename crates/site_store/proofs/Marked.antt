@@ -1,5 +1,5 @@
 -- A site that is brought to an epoch.
-use Rattle.std.proofs.Common.{◌≡◌, ◌⊎◌, inl, inr, ℕ, suc, ◌≤◌, ◌<◌, Bool, true, List, [], ◌++◌, length, map, take, drop, Option, None, Some, refl, sym, ◌∙◌, ap, subst, arith, append_assoc}
+use Rattle.std.proofs.Common.{◌≡◌, ◌⊎◌, inl, inr, ℕ, suc, ◌≤◌, ◌<◌, Bool, true, List, [], ◌++◌, length, map, take, drop, Option, None, Some, refl, sym, ◌∙◌, ap, subst, arith, append_assoc, append-nil}
 use Rattle.std.specs.Prelude.{◌^◌, ◌==◌, ◌&&◌, false, nat_lt, IfSome, IsSome}
 use Rattle.std.specs.FinMap as globals
 use Rattle.std.proofs.lemmas.Bool.{cases_lt}

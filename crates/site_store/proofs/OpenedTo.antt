@@ -42,7 +42,7 @@ use Rattle.entry_index.specs.Among.{IsIndexOf}
 use Rattle.jnl_index.specs.Order.{StandUpTo}
 use Rattle.entry_index.proofs.AmongLaws.{index_behind}
 use Rattle.journal_defs.specs.Surviving.{reigns}
-use Rattle.site_store.proofs.Indexing.{stand_same}
+use Rattle.site_store.proofs.Indexing.{index_cut, stand_same}
 
 -- journals that have just begun
 abbrev pub newly : Journal → RegionJournal

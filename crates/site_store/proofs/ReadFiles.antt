@@ -1,5 +1,5 @@
 -- What was read of a site is what its files hold.
-use Rattle.std.proofs.Common.{◌≡◌, ◌<◌, ℕ, List, length, map, Option, Some, None, IfSome, refl, sym, ap, subst, arith}
+use Rattle.std.proofs.Common.{◌≡◌, ℕ, List, length, map, Option, Some, IfSome, refl}
 use Rattle.disk_defs.specs.Disk.{Files, View, Image, IsLawful, AtEachMoment}
 use Rattle.disk_defs.proofs.Told.{told_at}
 use Rattle.global_defs.specs.Entry.{Sequence}
@@ -49,13 +49,17 @@ found_of u v0 v1 v2 w f same lawful1 lawful2 lawful3 run1 run2 run3 read made te
       told = told_then u.content (IsRead v0 f.read) (λ files. (journal : ℕ → List Placed) × (seq : Sequence) × IsFoundIn w f journal seq files) read (λ files told x.
           let held = held_read rs last x.0 files x.1.holds in
           let found = at_files u.content files (IsMade f) told (told_at u.content v2.content (IsMade f) same made) (found_records f x.0) refl held x.2 x.3 in
-          as_told u.content files (λ files. (journal : ℕ → List Placed) × (seq : Sequence) × IsFoundIn w f journal seq files) told (x.0, found.0, record {
-            read = read_kept (Some files) v2 w rs last x.0 lawful3 run3 (read_kept (Some files) v1 v2 rs last x.0 lawful2 run2 (read_kept (Some files) v0 v1 rs last x.0 lawful1 run1 x.1));
-            found = found.1;
-            indexed = found.2;
-            stand = λ r low. signs_stand files (found_signs f) x.0 r (generation rs) (last r) x.2 x.3 (x.1.holds.older r low);
-            broken_is = found.3;
-          }));
+          as_told u.content files (λ files. (journal : ℕ → List Placed) × (seq : Sequence) × IsFoundIn w f journal seq files) told (
+            x.0,
+            found.0,
+            record {
+              read = read_kept (Some files) v2 w rs last x.0 lawful3 run3 (read_kept (Some files) v1 v2 rs last x.0 lawful2 run2 (read_kept (Some files) v0 v1 rs last x.0 lawful1 run1 x.1));
+              found = found.1;
+              indexed = found.2;
+              stand = λ r low. signs_stand files (found_signs f) x.0 r (generation rs) (last r) x.2 x.3 (x.1.holds.older r low);
+              broken_is = found.3;
+            },
+          ));
       texts = texts_still u.content v2 w (generation rs) lawful3 run3 texts;
       databases = databases_still u.content v2 w (length (regions rs)) lawful3 run3 databases;
     }

@@ -1,5 +1,5 @@
 -- What an open site's images stand for, and what they still stand for once nothing but room has changed.
-use Rattle.std.proofs.Common.{ℕ, true, length, take, None, Some, subst, refl, suc, sym, ◌≡◌, ◌++◌}
+use Rattle.std.proofs.Common.{ℕ, true, length, take, None, Some, subst, refl, suc, ◌++◌}
 use Rattle.std.specs.Prelude.{Option, IfSome, IsSome, IsSomeAnd}
 use Rattle.std.proofs.Math.Seq.{take-length}
 use Rattle.disk_defs.specs.Disk.{Files, View, Image, IsLawful, ReadsAfter}
@@ -13,10 +13,10 @@ use Rattle.site_defs.specs.Fronts.{with_sequence}
 use Rattle.site_defs.specs.Stands.{IsSite}
 use Rattle.site_store.specs.declared.site.OpenSite.{OpenSite}
 use Rattle.site_regions.specs.Joined.{AreChanged}
+use Rattle.site_store.specs.Committing.{IsSameIndex}
 use Rattle.site_store.specs.Site.{Keeps, IsOpen}
 use Rattle.site_store.proofs.OnBlocks.{on_changed}
-use Rattle.entry_index.specs.Among.{IsIndexOf}
-use Rattle.entry_index.specs.declared.index.EntryIndex.{EntryIndex}
+use Rattle.site_store.proofs.Places.{same_index}
 use Rattle.journal_defs.specs.Surviving.{reigns}
 
 -- with all of its entries hardened, each image stands for its contents
@@ -51,7 +51,7 @@ still v w F stays told = among v.content w.content told stays.content
 
 -- where each image is one from before
 pub keeps_images : (v w : View) (c : Contents) (h : ℕ) (old new : OpenSite) (k : Keeps v c h old) → IsLawful w → IsSome w.content → ((f : Files) → Image w f → Image v f) → instances.HasRecords w new.instance c.instance
-    → KeepsJournals w k.newer (tcoms k.waiting) new.journals.journals.items → AreChanged old.globals new.globals → new.entries ≡ old.entries → Keeps w c h new
+    → KeepsJournals w k.newer (tcoms k.waiting) new.journals.journals.items → AreChanged old.globals new.globals → IsSameIndex old.entries new.entries → Keeps w c h new
 keeps_images v w c h old new k lawful told from instance journals changed entries = record {
   count = k.count;
   few_nodes = k.few_nodes;
@@ -74,7 +74,7 @@ keeps_images v w c h old new k lawful told from instance journals changed entrie
   are_waiting = k.are_waiting;
   are_parts = k.are_parts;
   in_regions = k.in_regions;
-  indexed = subst (λ (i : EntryIndex). IsIndexOf (λ r. k.records.journal r ++ appended (suc k.g) k.waiting r) (reigns c.instance) i c.sequence) (sym entries) k.indexed;
+  indexed = same_index old.entries new.entries entries (λ r. k.records.journal r ++ appended (suc k.g) k.waiting r) (reigns c.instance) c.sequence k.indexed;
   at_home = k.at_home;
   instance_file = instance;
   journal_files = journals;

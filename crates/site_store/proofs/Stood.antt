@@ -1,5 +1,5 @@
 -- A site is drawn as it stood.
-use Rattle.std.proofs.Common.{◌≡◌, ℕ, suc, ◌≤◌, ◌<◌, Bool, false, List, [], ◌∷◌, ◌++◌, length, map, Option, Some, None, IfSome, sym, ◌∙◌, ap, subst}
+use Rattle.std.proofs.Common.{◌≡◌, ℕ, suc, ◌≤◌, ◌<◌, Bool, true, false, List, [], ◌∷◌, ◌++◌, length, map, Option, Some, None, IfSome, sym, ◌∙◌, ap, subst}
 use Rattle.std.specs.Prelude.{◌^◌, slice_get}
 use Rattle.disk_defs.specs.Disk.{Files, View, Image, IsLawful, From, AtEachMoment}
 use Rattle.disk_defs.specs.Frames.{OthersStay}
@@ -15,15 +15,16 @@ use Rattle.journal_defs.specs.Sequence.{Records, IsSequence, Placed}
 use Rattle.journal_defs.specs.Stands.{AreRecords, IsInstance}
 use Rattle.journal_defs.specs.Fit.{IsSoundImage}
 use Rattle.site_files.specs.Loading.{AreNext, WasRead, MayDrawAs, HasDrawnAs, last_of, next_cut, next_broken, next_pini_as}
-use Rattle.site_defs.specs.Contents.{Contents}
+use Rattle.site_defs.specs.Contents.{Contents, Leftover}
+use Rattle.site_defs.specs.Stands.{IsSite, HasLeft}
 use Rattle.site_defs.specs.Forward.{opened_as}
 use Rattle.site_store.specs.declared.preparing.StandingSite.{StandingSite}
 use Rattle.site_store.specs.declared.site.OpenSite.{OpenSite}
 use Rattle.site_store.specs.Finding.{HasLayout}
 use Rattle.site_regions.specs.Joined.{joined}
-use Rattle.site_store.specs.Opening.{AreTextsDurable, AreDatabasesDurable}
+use Rattle.site_store.specs.Opening.{EachStands, AreTextsDurable, AreDatabasesDurable}
 use Rattle.site_store.specs.Needing.{NoneIsWithout}
-use Rattle.site_store.specs.Site.{Remembers, AreHeld, IsReady, StandOn, WasOpened, WasOpenedFrom, count_of}
+use Rattle.site_store.specs.Site.{Remembers, AreHeld, IsReady, IsOpen, StandOn, WasOpened, WasOpenedFrom, count_of}
 use Rattle.site_store.specs.Standing.{Stood, StandsIn, records_of}
 use Rattle.site_store.proofs.TheFiles.{told_then, as_told}
 use Rattle.site_store.proofs.Loaded as loaded
@@ -139,10 +140,10 @@ module _ (anew : Bool) (u v w : View) (k : StandingSite) (st : Stood anew u v k)
       indexed = subst (λ (i : EntryIndex). IsIndexOf x.0 (reigns rs) i x.1) (sym entries) x.2.indexed
 
       found_in : IfSome u.content (λ files. (y : Records) (other : Sequence) → AreRecords files y → IsSequence y other → WasOpenedFrom y other s)
-      found_in = loaded.opened_from u.content v rs last x.0 x.1 s (read files told x) x.2.sequence counted own
+      found_in = loaded.opened_from u.content v rs last x.0 x.1 s (read files told x) x.2.sequence counted own indexed
 
       held_in : IfSome u.content (λ files. (y : Records) × (other : Sequence) × AreRecords files y × IsSequence y other × WasOpenedFrom y other s × (anew ≡ false → NoneIsWithout y (length other)))
-      held_in = loaded.held_from (λ y other. anew ≡ false → NoneIsWithout y (length other)) u.content v rs last x.0 x.1 s (read files told x) x.2.sequence counted own x.2.without
+      held_in = loaded.held_from (λ y other. anew ≡ false → NoneIsWithout y (length other)) u.content v rs last x.0 x.1 s (read files told x) x.2.sequence counted own indexed x.2.without
 
     pub found : IfSome u.content (λ files. (y : Records) (other : Sequence) → AreRecords files y → IsSequence y other → WasOpenedFrom y other s)
     found = told_then u.content Given (λ files. (y : Records) (other : Sequence) → AreRecords files y → IsSequence y other → WasOpenedFrom y other s) st.told (λ files told x. found_in files told x)

@@ -85,7 +85,7 @@ journals_read v w g js r h = record {
 }
 
 pub site_read : (v w : View) (s : OpenSite) → Reads v w → IsReady v s → IsReady w s
-site_read v w s r h = record { instance = instance_read v w s.instance r h.instance; layout = h.layout; journals = journals_read v w (generation s.instance.records) s.journals.journals.items r h.journals; each_region = h.each_region; regions = held_read v w (length (regions s.instance.records)) s.globals r h.regions; few = h.few }
+site_read v w s r h = record { instance = instance_read v w s.instance r h.instance; layout = h.layout; journals = journals_read v w (generation s.instance.records) s.journals.journals.items r h.journals; each_region = h.each_region; regions = held_read v w (length (regions s.instance.records)) s.globals r h.regions; whole = h.whole; some_place = h.some_place; each_place = h.each_place; few = h.few }
 
 journals_kept : (v w : View) (hard waiting : ℕ → List JournalRecord) (js : List RegionJournal) → Reads v w → KeepsJournals v hard waiting js → KeepsJournals w hard waiting js
 journals_kept v w hard waiting js r h = record {

@@ -1,5 +1,5 @@
 -- Regions that need forward recovery for a target, by what signs say.
-use Rattle.std.proofs.Common.{◌≡◌, inl, inr, ℕ, zero, suc, ◌≤◌, ◌<◌, List, [], ◌∷◌, length, Option, Some, None, IfSome, refl, arith}
+use Rattle.std.proofs.Common.{◌≡◌, inl, inr, ℕ, zero, suc, ◌≤◌, List, [], ◌∷◌, length, Option, Some, None, IfSome, refl, arith}
 use Rattle.std.proofs.lemmas.Bool.{cases_lt}
 use Rattle.disk_defs.specs.Disk.{Files}
 use Rattle.journal_defs.specs.Instance.{InstanceRecord, regions}
@@ -50,5 +50,5 @@ module _ (rs : List InstanceRecord) (t n : ℕ) (journal : ℕ → List Placed) 
 -- of each list of records by which P is told
 pub first_told : (rs : List InstanceRecord) (t n : ℕ) → n ≡ length (regions rs) → (P Q : (ℕ → List Placed) → Type 0) → ((journal : ℕ → List Placed) → P journal → Q journal) → (o : Option WithoutImages)
     → IfSome o (λ x. (journal : ℕ → List Placed) → Q journal → opening.IsFirstWithout rs t journal n x) → IfSome o (λ x. (journal : ℕ → List Placed) → P journal → IsFirstWithout (record { instance = rs; journal = journal }) t x.region x.generation)
-first_told rs t n many P Q as None first = tt
-first_told rs t n many P Q as (Some x) first = λ journal p. first_is rs t n journal many x (first journal (as journal p))
+first_told rs t n many P Q more None first = tt
+first_told rs t n many P Q more (Some x) first = λ journal p. first_is rs t n journal many x (first journal (more journal p))

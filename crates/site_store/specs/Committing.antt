@@ -1,9 +1,7 @@
 -- Entries on their way into the journals.
-use Rattle.std.specs.Prelude.{◌≡◌, ◌+◌, ◌<◌, ◌≤◌, ℕ, List, [], ◌∷◌, ◌++◌, length, fold, Option, Some, None, slice_get, get_or}
+use Rattle.std.specs.Prelude.{◌≡◌, ◌+◌, ◌<◌, ◌≤◌, ℕ, List, ◌++◌, length, fold, Option, Some, None, slice_get, get_or}
 use Rattle.global_defs.specs.Entry.{Update, Transaction, apply}
-use Rattle.gvn_model.specs.declared.entry.Entry as code_entry
 use Rattle.gvn_model.specs.declared.entry.Transaction as code_transaction
-use Rattle.gvn_model.specs.Entries.{entry_value}
 use Rattle.disk_defs.specs.Disk.{View}
 use Rattle.journal_defs.specs.Journal.{JournalRecord, Part}
 use Rattle.journal_defs.specs.Instance.{generation, regions}
@@ -37,6 +35,11 @@ pub record AddsPlaces (parts : PartRecords) (js : List RegionJournal) (old new :
   pub count : length row ≡ old.regions
   pub each : (r : ℕ) → r < old.regions → get_or row r NOWHERE ≡ next_place parts js r
 
+-- an index with the same places, though there may be more room
+pub record IsSameIndex (old new : EntryIndex) : Type 0 where
+  pub regions : new.regions ≡ old.regions
+  pub places : new.places.items ≡ old.places.items
+
 -- its places are in the index, and its updates are made
 pub record Enters (old new : OpenSite) (t : code_transaction.Transaction) (parts : PartRecords) : Type 0 where
   pub places : AddsPlaces parts new.journals.journals.items old.entries new.entries
@@ -53,7 +56,7 @@ pub record IsSameSite (old new : OpenSite) : Type 0 where
 -- and when none comes
 pub record IsSameMemory (old new : OpenSite) : Type 0 where
   pub same : IsSameSite old new
-  pub entries : new.entries ≡ old.entries
+  pub entries : IsSameIndex old.entries new.entries
   pub globals : joined new.globals ≡ joined old.globals
   -- though there may be more room
   pub changed : AreChanged old.globals new.globals

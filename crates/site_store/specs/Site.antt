@@ -149,10 +149,11 @@ pub record WasOpened (s : OpenSite) : Type 0 where
   pub no_reign_past : AllByRecursion (λ (r : defs.Reign). r.start ≤ count_of s) (reigns s.instance.records)
   pub no_reign : s.stamp ≡ None
 
--- It was opened from these records, which stand for this sequence: it has as many entries, and its instance file's records are theirs and
--- the CUT at its length.
+-- It was opened from these records, which stand for this sequence: it has the places of its entries among them, and its instance file's
+-- records are theirs and the CUT at its length.
 pub record WasOpenedFrom (u : Records) (seq : Sequence) (s : OpenSite) : Type 0 where
   pub count : count_of s ≡ length seq
+  pub indexed : IsIndexOf u.journal (reigns u.instance) s.entries seq
   pub instance : s.instance.records ≡ u.instance ++ Cut (length seq) (generation u.instance + 1) ∷ []
 
 -- a reign was begun

@@ -1,5 +1,6 @@
 //! Regions that need forward recovery.
-ghost use Rattle.std.specs.Prelude.{◌≡◌, None, IfOk, IfSome};
+ghost use Rattle.std.specs.Prelude.{◌≡◌, ℕ, List, None, IfOk, IfSome};
+ghost use Rattle.journal_defs.specs.Sequence.{Placed};
 ghost use Rattle.site_store.specs.Needing.{IsFirstWithout, NoneIsWithout};
 ghost use Rattle.site_store.specs.Standing.{HasFound, found_records, found_signs};
 ghost use Rattle.region_opening.specs.Signs.{AllSay};

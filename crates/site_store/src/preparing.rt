@@ -1,5 +1,5 @@
 //! A site as it stands on a disk, before anything is written.
-ghost use Rattle.std.specs.Prelude.{◌≡◌, ◌⊎◌, ◌≤◌, ◌<◌, ◌++◌, ◌∷◌, [], ℕ, List, true, length, map, IfOk, IfSome, OnOk, OnErr, IsErrOf};
+ghost use Rattle.std.specs.Prelude.{◌≡◌, ◌⊎◌, ◌≤◌, ◌<◌, ◌++◌, ◌∷◌, [], ℕ, List, true, map, IfOk, IfSome, OnOk, OnErr, IsErrOf};
 ghost use Rattle.disk_defs.specs.Disk.{Image, Reads, AtEachMoment, Rose};
 ghost use Rattle.journal_defs.specs.Instance as defs;
 ghost use Rattle.journal_defs.specs.Instance.{generation};
@@ -103,7 +103,8 @@ pub fn find_files<D: Disk>(alloc: Global, disk: &mut D) -> Result<FoundFiles, Si
     let read = read_site(alloc, disk)?;
     sync_texts(disk, generation_in(read.log.records.as_slice()))?;
     sync_databases(disk, u32::from(read.directory.regions()))?;
-    let Remembered { entries, broken } = remember_all(alloc, disk, &read)?;
+    let remembered = remember_all(alloc, disk, &read)?;
+    let Remembered { entries, broken } = remembered;
     Ok(FoundFiles {
         read,
         entries,

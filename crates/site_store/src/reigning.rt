@@ -1,6 +1,6 @@
 //! Beginning a reign.
 ghost use Rattle.std.specs.Prelude.{◌≡◌, ◌⊎◌, ◌≤◌, ◌<◌, ◌^◌, ◌++◌, ◌∷◌, [], ℕ, Bool, true, false, length, Some, IfOk, IfSome, OnOk, OnErr, IsErrOf, IsSome};
-ghost use Rattle.disk_defs.specs.Disk.{Files, Image, AtEachMoment, Rose};
+ghost use Rattle.disk_defs.specs.Disk.{Image, AtEachMoment, Rose};
 ghost use Rattle.gvn_model.specs.Reigns.{stamp_value, reign_value};
 ghost use Rattle.journal_defs.specs.Instance.{Reigned, site_name};
 ghost use Rattle.site_defs.specs.Contents.{Contents, bare};

@@ -44,8 +44,8 @@ fn in_index(error: IndexError, fault: u64) -> SiteError
 /// `starts` what `mupip_recover::starts_of` gives for these.
 ///
 /// # Errors
-/// `NotAFile` with the file and the place of a part, only where the files don't have there what the index says; `Failed` only where the
-/// disk's count rose; `NoMemory`. Nothing is added then.
+/// `NotAFile` with the file and the place of a part, only where the files don't have there what the index says, or with file 0 and offset
+/// 0 where no reign covers the entry; `Failed` only where the disk's count rose; `NoMemory`. Nothing is added then.
 pub fn write_entry<D: Disk>(
     disk: &mut D,
     entries: &EntryIndex,
@@ -69,9 +69,12 @@ pub fn write_entry<D: Disk>(
     ensures cause { (fault : ℕ) → IsErrOf result (SiteError.Failed fault) → Rose (D.disk disk.old).faults (D.disk disk.new).faults }
     ensures causes { OnErr result (((fault : ℕ) × IsErrOf result (SiteError.Failed fault)) ⊎ ((file : ℕ) × (offset : ℕ) × IsErrOf result (SiteError.NotAFile file offset)) ⊎ IsErrOf result SiteError.NoMemory) }
 {
+    if entries.len() < number {
+        return Ok(());
+    }
     match entries.read(out.allocator(), disk, history, starts, number) {
         Ok(Some(entry)) => Ok(extract_entry(&entry, out)?),
-        Ok(None) => Ok(()),
+        Ok(None) => Err(SiteError::NotAFile { file: 0, offset: 0 }),
         Err(error) => Err(in_index(error, disk.faults())),
     }
 }

@@ -11,9 +11,9 @@ use Rattle.entry_index.specs.Signs.{signs_of}
 use Rattle.region_store.specs.Region.{Standing}
 use Rattle.region_store.specs.declared.error.RegionError.TheVariants.{NotAFile}
 use Rattle.region_store.proofs.Handed.{handed_on}
-use Rattle.site_regions.specs.Joined.{joined}
+use Rattle.site_regions.specs.Joined.{ArePartsOf, joined}
 use Rattle.region_opening.specs.Opening.{are_home}
-use Rattle.region_opening.proofs.Opened.{AreGivenRefused, have_parts, anew_parts, anew_state, anew_told, files_are, held_told}
+use Rattle.region_opening.proofs.Opened.{AreGivenRefused, have_parts, empty_parts, anew_parts, anew_state, anew_told, files_are, held_told}
 use Rattle.region_opening.proofs.rebuilding.rebuild_regions.Goals as goal
 use Rattle.entry_index.specs.Parts.{InFiles}
 
@@ -26,6 +26,17 @@ new-requires-clause-parts g c = have_parts c.args.directory.patterns c.in_ok-reg
 
 pub returns-clause-files : goal.returns-clause-files
 returns-clause-files g c = files_are (patterns c.args.instance.now) c.len-target.result c.in_ok-regions.regions.items c.in_ok-new.field-0.regions c.in_ok-new.ensures.regions c.in_ok-regions.ensures.own
+
+pub returns-clause-none : goal.returns-clause-none
+returns-clause-none g c no_entry =
+    c.in_ok-new.ensures.joined [] (subst (λ (ps : List Pattern). ArePartsOf ps c.in_ok-regions.regions.items []) (sym c.requires.patterns)
+    (empty_parts (patterns c.args.instance.now) c.in_ok-regions.regions.items c.len-target.result (c.len-target.ensures.count ∙ no_entry) c.in_ok-regions.ensures.own))
+
+pub returns-clause-some : goal.returns-clause-some
+returns-clause-some g c =
+    let parts = have_parts c.args.directory.patterns c.in_ok-regions.regions.items (λ r s here.
+    subst (λ (ps : List Pattern). are_home ps r s.globals ≡ true) (sym c.requires.patterns) (c.in_ok-regions.ensures.own r s here).home) in
+    (parts.0, c.in_ok-new.ensures.joined parts.0 parts.1)
 
 pub returns-clause-state : goal.returns-clause-state
 returns-clause-state g c =

@@ -1,7 +1,8 @@
 use Rattle.std.proofs.Common.{rules, ◌≡◌, ◌∙◌, ℕ, List, length, map, Option, ap, refl, IfSome}
 use Rattle.std.specs.Prelude.{filter, nat_le}
 use Rattle.std.proofs.lemmas.Result.{err_from_is_err_and}
-use Rattle.disk_defs.specs.Disk.{Files}
+use Rattle.disk_defs.specs.Disk.{Files, Image}
+use Rattle.disk_defs.proofs.Moments.{nothing_new, read_only}
 use Rattle.disk_defs.proofs.Told.{both_weak, told_at}
 use Rattle.global_defs.specs.Entry.{Sequence, Reign}
 use Rattle.journal_defs.specs.Sequence.{Placed, Records, IsSequence}
@@ -31,8 +32,8 @@ returns-in_err-read-clause-outside g c =
 -- what the files hold is what was read of them
 never : (o n : Option Files) (rs : List InstanceRecord) (signs : List (List PlacedSign)) (P : Files → Type 0) → n ≡ o → IfSome o (λ files. (u : Records) × (u.instance ≡ rs) × AreRecords files u × AreSigns files signs u.journal)
     → IfSome n (λ files. (journal : ℕ → List Placed) → AreSigns files signs journal → ⊥) → IfSome o P
-never o n rs signs P same held no = both_weak o (λ files. (u : Records) × (u.instance ≡ rs) × AreRecords files u × AreSigns files signs u.journal) (λ files. (journal : ℕ → List Placed) → AreSigns files signs journal → ⊥) P held
-    (told_at o n (λ files. (journal : ℕ → List Placed) → AreSigns files signs journal → ⊥) same no) (λ files x none. absurd (none x.0.journal x.3))
+never o n rs signs P same held nothing = both_weak o (λ files. (u : Records) × (u.instance ≡ rs) × AreRecords files u × AreSigns files signs u.journal) (λ files. (journal : ℕ → List Placed) → AreSigns files signs journal → ⊥) P held
+    (told_at o n (λ files. (journal : ℕ → List Placed) → AreSigns files signs journal → ⊥) same nothing) (λ files x none. absurd (none x.0.journal x.3))
 
 pub returns-in_err-length-clause-place : goal.returns-in_err-length-clause-place
 returns-in_err-length-clause-place g c =
@@ -73,3 +74,18 @@ returns-clause-told g c =
     let made : c.in_ok-reigns.reigns ≡ filter (λ (r : Reign). nat_le r.start n) (reigns rs) = c.in_ok-reigns.ensures ∙ ap (filter (λ (r : Reign). nat_le r.start n)) (c.as_slice.ensures ∙ own) in
     history_told (g.D.Disk.disk c.args.disk.now).content rs n (record { length = n; reigns = c.in_ok-reigns.reigns })
     (held_entries (g.D.Disk.disk c.args.disk.now).content (g.D.Disk.disk c.read_records.new.disk).content rs (map (λ s. s.items) c.in_ok-read.read.signs.items) n c.read_records.ensures.content c.in_ok-read.ensures.held c.in_ok-length.ensures.counted) refl made
+
+pub returns-in_err-length-clause-any_moment : goal.returns-in_err-length-clause-any_moment
+returns-in_err-length-clause-any_moment g c =
+    let view = g.D.Disk.disk in
+    nothing_new (view c.args.disk.now) (view c.read_records.new.disk) (view c.count_entries.new.disk) (Image (view c.args.disk.now)) (g.met.D.Disk.lawful c.read_records.new.disk) c.read_records.ensures.any_moment (read_only (view c.read_records.new.disk) (view c.count_entries.new.disk) c.count_entries.ensures.reads)
+
+pub returns-in_err-reigns-clause-any_moment : goal.returns-in_err-reigns-clause-any_moment
+returns-in_err-reigns-clause-any_moment g c =
+    let view = g.D.Disk.disk in
+    nothing_new (view c.args.disk.now) (view c.read_records.new.disk) (view c.count_entries.new.disk) (Image (view c.args.disk.now)) (g.met.D.Disk.lawful c.read_records.new.disk) c.read_records.ensures.any_moment (read_only (view c.read_records.new.disk) (view c.count_entries.new.disk) c.count_entries.ensures.reads)
+
+pub returns-clause-any_moment : goal.returns-clause-any_moment
+returns-clause-any_moment g c =
+    let view = g.D.Disk.disk in
+    nothing_new (view c.args.disk.now) (view c.read_records.new.disk) (view c.count_entries.new.disk) (Image (view c.args.disk.now)) (g.met.D.Disk.lawful c.read_records.new.disk) c.read_records.ensures.any_moment (read_only (view c.read_records.new.disk) (view c.count_entries.new.disk) c.count_entries.ensures.reads)

@@ -1,17 +1,14 @@
-use Rattle.std.proofs.Common.{◌≡◌, ◌≤◌, ℕ, List, Vec, Global, length, map, sym, ◌∙◌, ap, subst, arith, IfSome}
+use Rattle.std.proofs.Common.{◌≡◌, List, Vec, Global, length, map, sym, ◌∙◌, ap, subst, arith}
 use Rattle.journal_defs.specs.Instance.{regions}
-use Rattle.journal_defs.specs.Sequence.{Placed}
 use Rattle.jnl_index.specs.declared.placed.PlacedSign.{PlacedSign}
 use Rattle.region_opening.specs.Signs.{AllSay}
-use Rattle.region_opening.specs.Forward as opening
 use Rattle.site_files.proofs.Writing.{if_ok}
-use Rattle.site_store.specs.Needing.{IsFirstWithout}
-use Rattle.site_store.specs.Standing.{found_signs, found_records}
+use Rattle.site_store.specs.Standing.{found_signs}
 use Rattle.site_store.proofs.Without.{none_is, first_told}
 use Rattle.site_store.proofs.needing.first_needing.Goals as goal
 
-pub first_without_images-requires-clause-few : goal.first_without_images-requires-clause-few
-first_without_images-requires-clause-few c =
+pub first_without_images-requires : goal.first_without_images-requires
+first_without_images-requires c =
     let many = c.requires.has.signs in
     let few = c.requires.has.form.few_regions in
     let same : length c.deref.result.now ≡ length c.args.found.now.read.signs.items = ap length c.deref.ensures.value in

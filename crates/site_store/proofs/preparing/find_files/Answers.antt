@@ -1,6 +1,6 @@
-use Rattle.std.proofs.Common.{◌≡◌, ◌<◌, ℕ, List, length, map, refl, sym, ◌∙◌, ap, subst, arith, IfSome}
+use Rattle.std.proofs.Common.{◌≡◌, ℕ, length, ◌∙◌, ap, subst, arith, IfSome}
 use Rattle.std.proofs.lemmas.Result.{err_from_is_err_and}
-use Rattle.disk_defs.specs.Disk.{Files, Image}
+use Rattle.disk_defs.specs.Disk.{Image}
 use Rattle.disk_defs.proofs.Moments.{nothing_new, read_only}
 use Rattle.disk_defs.proofs.Told.{told_at}
 use Rattle.journal_defs.specs.Instance.{generation, regions}
@@ -12,7 +12,7 @@ use Rattle.site_store.specs.Opening.{AreTextsDurable, AreDatabasesDurable}
 use Rattle.site_store.proofs.Databases.{texts_still}
 use Rattle.site_store.proofs.Errors.{file_was}
 use Rattle.site_store.proofs.Refused.{no_site}
-use Rattle.site_store.proofs.ReadFiles.{IsRead, never_read, found_of}
+use Rattle.site_store.proofs.ReadFiles.{never_read, found_of}
 use Rattle.site_store.proofs.preparing.find_files.Goals as goal
 
 pub returns-in_err-read-clause-outside : goal.returns-in_err-read-clause-outside
@@ -62,7 +62,7 @@ returns-clause-any_moment g c =
 pub returns-clause-has : goal.returns-clause-has
 returns-clause-has g c =
     let read = c.in_ok-read.ensures in
-    let made = c.in_ok-remember_all.ensures in
+    let made = c.in_ok-remembered.ensures in
     let form = read.form in
     record {
       form = read.form;
@@ -71,7 +71,7 @@ returns-clause-has g c =
       directory = read.directory.2;
       signs = read.signs;
       each_place = made.regions ∙ read.signs;
-      whole = whole_rows c.in_ok-remember_all.field-0.entries made.rows.0 (let some = form.some_region in let wide = made.regions ∙ read.signs in omega (arith, wide, some)) made.rows.1;
+      whole = whole_rows c.in_ok-remembered.remembered.entries made.rows.0 (let some = form.some_region in let wide = made.regions ∙ read.signs in omega (arith, wide, some)) made.rows.1;
       few = made.few;
     }
 
@@ -93,7 +93,7 @@ returns-clause-found g c =
     let read = c.in_ok-read.read in
     let rs = read.log.records in
     let dir = c.in_ok-read.ensures.directory in
-    found_of u v0 v1 v2 w _ same3 lawful1 lawful2 lawful3 c.sync_texts.ensures.any_moment c.sync_databases.ensures.any_moment run3 c.in_ok-read.ensures.read c.in_ok-remember_all.ensures.found
+    found_of u v0 v1 v2 w _ same3 lawful1 lawful2 lawful3 c.sync_texts.ensures.any_moment c.sync_databases.ensures.any_moment run3 c.in_ok-read.ensures.read c.in_ok-remembered.ensures.found
     (texts_still u.content v1 v2 (generation rs) lawful2 c.sync_databases.ensures.any_moment
     (told_at u.content v0.content (AreTextsDurable v1 (generation rs)) same1 (subst (λ (k : ℕ). IfSome v0.content (AreTextsDurable v1 k)) (c.generation_in.ensures ∙ ap generation c.as_slice.ensures) c.in_ok-sync_texts.ensures.durable)))
     (told_at u.content v1.content (AreDatabasesDurable v2 (length (regions rs))) same2

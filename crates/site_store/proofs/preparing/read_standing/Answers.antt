@@ -1,4 +1,4 @@
-use Rattle.std.proofs.Common.{◌≡◌, inl, ℕ, Bool, true, false, length, IfOk, refl, sym, subst, arith}
+use Rattle.std.proofs.Common.{◌≡◌, inl, ℕ, Bool, true, false, IfOk, refl, sym, subst}
 use Rattle.std.proofs.lemmas.Result.{err_from_is_err_and}
 use Rattle.disk_defs.specs.Disk.{Image}
 use Rattle.disk_defs.proofs.Moments.{nothing_new, read_only}
@@ -55,7 +55,7 @@ pub returns-in_err-check_images-clause-needs : goal.returns-in_err-check_images-
 returns-in_err-check_images-clause-needs g c =
     let view = g.D.Disk.disk in
     let f = c.in_ok-found.found in
-    let all : c.len-target.result ≡ entry_count f.entries = (let e = c.len-target.ensures in omega (arith, e)) in
+    let all : c.len-target.result ≡ entry_count f.entries = c.len-target.ensures.count in
     let p = err_from_is_err_and c.from_residual-in_err-check_images.result c.from_residual-in_err-check_images.ensures.1 in
     rw (p.1, p.2) (λ region is.
     let first = c.in_err-check_images.ensures.first region (handed_on c.in_err-check_images.field-0.0 (error.NeedForward region) is) in
@@ -67,7 +67,7 @@ returns-clause-stood g c =
     let view = g.D.Disk.disk in
     let u = view c.args.disk.now in
     let w = view c.stand.new.disk in
-    let all : c.len-target.result ≡ entry_count c.in_ok-found.found.entries = (let e = c.len-target.ensures in omega (arith, e)) in
+    let all : c.len-target.result ≡ entry_count c.in_ok-found.found.entries = c.len-target.ensures.count in
     subst (λ (b : Bool). IfOk c.stand.result (Stood b u w)) (sym c.if-anew.false)
     (stood_ok false u (view c.find_files.new.disk) w c.in_ok-found.found c.len-target.result c.stand.result (g.met.D.Disk.lawful c.stand.new.disk) c.stand.ensures.reads c.find_files.ensures.content
     c.in_ok-found.ensures.has c.in_ok-found.ensures.found all c.stand.ensures.found_as c.stand.ensures.opened (λ _. c.in_ok-check_images.ensures.none))
@@ -75,7 +75,7 @@ returns-clause-stood g c =
 pub returns-clause-place : goal.returns-clause-place
 returns-clause-place g c = λ file offset is.
     let view = g.D.Disk.disk in
-    let all : whole (entry_count c.in_ok-found.found.entries) ≡ c.len-target.result = (let e = c.len-target.ensures in omega (arith, e)) in
+    let all : whole (entry_count c.in_ok-found.found.entries) ≡ c.len-target.result = sym c.len-target.ensures.count in
     blocks_outside (view c.args.disk.now) (view c.find_files.new.disk) c.in_ok-found.found c.in_ok-found.ensures.has c.in_ok-found.ensures.found c.find_files.ensures.content file offset (c.stand.ensures.place file offset is whole all)
 
 pub returns-clause-outside : goal.returns-clause-outside

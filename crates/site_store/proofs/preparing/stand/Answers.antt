@@ -1,7 +1,6 @@
 use Rattle.std.proofs.Common.{◌≡◌, ◌<◌, rules, List, Vec, Global, length, map, take, sym, ◌∙◌, ap, subst, IfSome}
 use Rattle.std.specs.List.{AllByRecursion}
 use Rattle.std.proofs.lemmas.Result.{err_from_is_err_and}
-use Rattle.disk_defs.specs.Disk.{Files}
 use Rattle.global_defs.specs.Entry.{Sequence, state}
 use Rattle.jnl_index.specs.declared.placed.PlacedSign.{PlacedSign}
 use Rattle.journal_defs.specs.Instance.{regions}

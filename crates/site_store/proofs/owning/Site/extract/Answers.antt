@@ -16,15 +16,15 @@ returns-in-Ok-clause-stays_open g c told x h is now =
 pub returns-in-Ok-clause-opened : goal.returns-in-Ok-clause-opened
 returns-in-Ok-clause-opened g c x h is = c.in-Ok.ensures.entry x h is.inner
 
-pub returns-in-Err-clause-outside : goal.returns-in-Err-clause-outside
-returns-in-Err-clause-outside g c = λ file offset is x h open. c.in-Err.ensures.outside file offset is x h open.inner
+pub returns-clause-outside : goal.returns-clause-outside
+returns-clause-outside g c = λ file offset is x h site. c.in-Err.ensures.outside file offset is x h site.inner
 
-pub returns-in-Err-clause-ready : goal.returns-in-Err-clause-ready
-returns-in-Err-clause-ready g c =
+pub returns-clause-ready : goal.returns-clause-ready
+returns-clause-ready g c =
     let none : c.args.self.now.fault ≡ None = search rules in
     going_after g.D.Disk.disk c.args.self.now c.note.new.self (subst (λ d. Reads (g.D.Disk.disk c.args.self.now.disk) (g.D.Disk.disk d)) (sym c.note.ensures.disk) c.extract.ensures.reads) c.note.ensures.inner c.note.ensures.history none c.requires.ready
 
-pub returns-in-Err-clause-stays_open : goal.returns-in-Err-clause-stays_open
-returns-in-Err-clause-stays_open g c told x h is now =
+pub returns-clause-stays_open : goal.returns-clause-stays_open
+returns-clause-stays_open g c told x h is now =
     open_after g.D.Disk.disk c.args.self.now c.note.new.self told x h (g.met.D.Disk.lawful c.note.new.self.disk)
     (subst (λ d. Reads (g.D.Disk.disk c.args.self.now.disk) (g.D.Disk.disk d)) (sym c.note.ensures.disk) c.extract.ensures.reads) c.note.ensures.inner is now

@@ -1,4 +1,4 @@
-use Rattle.std.proofs.Common.{◌≡◌, length, rules}
+use Rattle.std.proofs.Common.{◌≡◌, rules}
 use Rattle.site_store.proofs.Owned.{open_settled}
 use Rattle.site_store.proofs.owning.Site.harden.Goals as goal
 use Rattle.site_store.specs.Site.{count_of}

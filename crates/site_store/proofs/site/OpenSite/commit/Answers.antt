@@ -1,4 +1,4 @@
-use Rattle.std.proofs.Common.{refl, ◌∙◌}
+use Rattle.std.proofs.Common.{refl, ◌∙◌, arith}
 use Rattle.gvn_model.specs.Entries.{transaction_value}
 use Rattle.journal_defs.specs.Instance.{generation}
 use Rattle.site_regions.proofs.Making.{changed_none}
@@ -103,7 +103,12 @@ returns-in_err-parts-clause-bare g c y h o = committed.prepare_bare (g.D.Disk.di
 
 pub returns-in-Ok-clause-number : goal.returns-in-Ok-clause-number
 returns-in-Ok-clause-number g c =
-    c.len-2.ensures ∙ counts_places c.in_ok-parts.parts c.prepare.new.self.journals.journals.items c.args.self.now.entries c.prepare.new.self.entries c.requires.ready.some_place c.requires.ready.whole c.in_ok-parts.ensures.enters.places
+    c.len-in-Ok.ensures.count ∙ counts_places c.in_ok-parts.parts c.prepare.new.self.journals.journals.items c.args.self.now.entries c.prepare.new.self.entries c.requires.ready.some_place c.requires.ready.whole c.in_ok-parts.ensures.enters.places
 
 pub returns-in-Ok-clause-grown : goal.returns-in-Ok-clause-grown
 returns-in-Ok-clause-grown g c = counts_places c.in_ok-parts.parts c.prepare.new.self.journals.journals.items c.args.self.now.entries c.prepare.new.self.entries c.requires.ready.some_place c.requires.ready.whole c.in_ok-parts.ensures.enters.places
+
+pub returns-in-Ok-clause-reign : goal.returns-in-Ok-clause-reign
+returns-in-Ok-clause-reign g c =
+    committed.reign_stays c.args.self.now _ c.requires.reign c.prepare.ensures.same.instance c.prepare.ensures.same.stamp
+    (let more = counts_places c.in_ok-parts.parts c.prepare.new.self.journals.journals.items c.args.self.now.entries c.prepare.new.self.entries c.requires.ready.some_place c.requires.ready.whole c.in_ok-parts.ensures.enters.places in omega (arith, more))

@@ -1,4 +1,4 @@
-use Rattle.std.proofs.Common.{◌≤◌, arith}
+use Rattle.std.proofs.Common.{arith}
 use Rattle.site_store.proofs.Shown.{shows_entry, no_outside}
 use Rattle.site_store.proofs.site.OpenSite.extract.Goals as goal
 
@@ -9,4 +9,4 @@ pub returns-clause-entry : goal.returns-clause-entry
 returns-clause-entry g c = shows_entry (g.D.Disk.disk c.args.disk.now) c.args.self.now c.history.result.now (g.met.D.Disk.lawful c.args.disk.now) c.requires.ready c.history.ensures c.args.number c.args.out.now c.write_entry.new.out c.write_entry.result c.write_entry.ensures.entry
 
 pub returns-clause-outside : goal.returns-clause-outside
-returns-clause-outside g c = λ file offset is x h open. no_outside (g.D.Disk.disk c.args.disk.now) c.args.self.now c.history.result.now (g.met.D.Disk.lawful c.args.disk.now) c.requires.ready c.history.ensures (c.write_entry.ensures.outside file offset is) x h open
+returns-clause-outside g c = λ file offset is x h site. no_outside (g.D.Disk.disk c.args.disk.now) c.args.self.now c.history.result.now (g.met.D.Disk.lawful c.args.disk.now) c.requires.ready c.history.ensures (c.write_entry.ensures.outside file offset is) x h site

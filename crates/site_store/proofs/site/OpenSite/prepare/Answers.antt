@@ -1,13 +1,9 @@
-use Rattle.std.proofs.Common.{◌<◌, refl, sym, subst, ap, arith}
+use Rattle.std.proofs.Common.{ℕ, ◌<◌, refl, sym, subst, arith}
 use Rattle.std.specs.Prelude.{◌^◌}
-use Rattle.entry_index.specs.declared.index.EntryIndex.{EntryIndex}
-use Rattle.entry_index.specs.Found.{entry_count, IsWhole}
-use Rattle.site_store.proofs.Places.{counts_places, whole_places}
+use Rattle.site_store.proofs.Places.{counts_places, whole_places, same_count, same_whole}
 use Rattle.site_regions.proofs.Making.{changed_none}
 use Rattle.site_store.proofs.Committed as committed
 use Rattle.site_store.proofs.site.OpenSite.prepare.Goals as goal
-use Rattle.entry_index.specs.Found.{entry_count}
-use Rattle.entry_index.specs.declared.index.EntryIndex.{EntryIndex}
 
 pub returns-in_err-prepare-clause-ready : goal.returns-in_err-prepare-clause-ready
 returns-in_err-prepare-clause-ready g c =
@@ -20,8 +16,8 @@ pub returns-in_err-remember-clause-ready : goal.returns-in_err-remember-clause-r
 returns-in_err-remember-clause-ready g c =
     committed.ready_prepared (g.D.Disk.disk c.args.disk.now) (g.D.Disk.disk c.prepare.new.disk) c.args.self.now c.remember.new.self c.prepare.new.self c.requires.ready c.prepare.ensures.ready c.prepare.ensures.count c.prepare.ensures.frame
     c.remember.ensures.journals c.remember.ensures.same.instance c.remember.ensures.same.layout c.remember.ensures.changed
-    (subst (λ (i : EntryIndex). entry_count i < 2 ^ 40) (sym c.in_err-remember.ensures.kept.entries) c.requires.ready.few)
-    (subst IsWhole (sym c.in_err-remember.ensures.kept.entries) c.requires.ready.whole) (ap (λ (i : EntryIndex). i.regions) c.in_err-remember.ensures.kept.entries)
+    (subst (λ (n : ℕ). n < 2 ^ 40) (sym (same_count c.args.self.now.entries c.remember.new.self.entries c.in_err-remember.ensures.kept.entries)) c.requires.ready.few)
+    (same_whole c.args.self.now.entries c.remember.new.self.entries c.in_err-remember.ensures.kept.entries c.requires.ready.whole) c.in_err-remember.ensures.kept.entries.regions
 
 pub returns-in_err-remember-clause-frame : goal.returns-in_err-remember-clause-frame
 returns-in_err-remember-clause-frame g c = committed.own_stays (g.D.Disk.disk c.args.disk.now) (g.D.Disk.disk c.prepare.new.disk) c.args.self.now c.requires.ready c.prepare.ensures.frame
