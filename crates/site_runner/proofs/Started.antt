@@ -217,7 +217,7 @@ opened_untold v w s o p down h name unsure read held same later = record {
   broken = read.1;
   as_before = λ sure. absurd (false≢true (sym unsure ∙ sure));
   as_left = λ sure. absurd (false≢true (sym unsure ∙ sure));
-  is_open = record { remembered = read.2; entries = λ sure. absurd (false≢true (sym unsure ∙ sure)); kept = λ sure. absurd (false≢true (sym unsure ∙ sure)) };
+  is_open = record { remembered = read.2; kept = λ sure. absurd (false≢true (sym unsure ∙ sure)) };
   outcome = λ sure. absurd (false≢true (sym unsure ∙ sure));
   standing = λ sure. absurd (false≢true (sym unsure ∙ sure));
   drawn = λ sure. absurd (false≢true (sym unsure ∙ sure));

@@ -1,11 +1,11 @@
-use Rattle.std.proofs.Common.{Bool, ◌≡◌, ◌+◌, ◌++◌, ◌∙◌, ap, drop, List, ℕ, Err}
+use Rattle.std.proofs.Common.{Bool, ◌≡◌, ◌+◌, ◌++◌, ◌∙◌, ap, drop, subst, List, ℕ, Err}
 use Rattle.global_defs.specs.Entry.{Sequence}
 use Rattle.global_defs.specs.Extract.{entries_text}
 use Rattle.site_defs.specs.Texts.{extract_from}
 use Rattle.world_defs.specs.Row.{refused_with, why_not_open}
 use Rattle.world_defs.specs.rows.Extract as rows
 use Rattle.site_runner.specs.declared.slot.Site.{Site}
-use Rattle.site_runner.specs.Sites.{state_value}
+use Rattle.site_runner.specs.Sites.{state_value, IsReadyState}
 use Rattle.site_runner.specs.Steps.{ExecutesAt}
 use Rattle.site_runner.proofs.Ats.{kept_same, state_at, refuses_by, why_is, on_not_done, on_failed}
 use Rattle.site_runner.proofs.Fused.{ready_read_on}
@@ -22,6 +22,9 @@ returns-in-Some-clause-done g c =
     let s = c.args.site.now in
     refuses_by (rows.extract c.args.number s.name) v s c.in-Some.cause c.args.text.now _ c.as_slice.result.now c.refuse.result
     (λ p h. ap (refused_with s.name) (state_at why_not_open v s p h ∙ why_is c.why_not_open.result c.in-Some.cause (why_not_open (state_value s.state)) c.why_not_open.ensures c.in-Some.is)) kept_same (λ p. tt) c.as_slice.ensures c.refuse.ensures
+
+pub write_entries-requires : goal.write_entries-requires
+write_entries-requires g c = (subst (IsReadyState (g.D.Disk.disk c.args.disk.now)) c.in-Primary.is c.requires.ready).files
 
 pub returns-in-Ok-clause-ready : goal.returns-in-Ok-clause-ready
 returns-in-Ok-clause-ready g c = ready_read_on (g.D.Disk.disk c.args.disk.now) (g.D.Disk.disk c.write_entries.new.disk) c.args.site.now.state c.in-Ok.ensures.reads c.requires.ready
@@ -43,7 +46,7 @@ returns-in-Ok-clause-done g c =
 
 pub returns-in_err-push_all-in-Ok-clause-cut_off : goal.returns-in_err-push_all-in-Ok-clause-cut_off
 returns-in_err-push_all-in-Ok-clause-cut_off g c =
-    err_holds c.from_residual.result _ (read_cut (rows.extract c.args.number c.args.site.now.name) (g.D.Disk.disk c.args.disk.now) (g.D.Disk.disk c.write_entries.new.disk) c.args.site.now c.in-Ok.ensures.reads c.in-Ok.ensures.later)
+    err_holds c.from_residual-in_err-push_all-in-Ok.result _ (read_cut (rows.extract c.args.number c.args.site.now.name) (g.D.Disk.disk c.args.disk.now) (g.D.Disk.disk c.write_entries.new.disk) c.args.site.now c.in-Ok.ensures.reads c.in-Ok.ensures.later)
 
 pub returns-in-Err-Failed-clause-done : goal.returns-in-Err-Failed-clause-done
 returns-in-Err-Failed-clause-done g c =

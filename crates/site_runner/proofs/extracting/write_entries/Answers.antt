@@ -1,9 +1,10 @@
-use Rattle.std.proofs.Common.{rules, ◌≡◌, ℕ, ◌+◌, ◌-◌, ◌≤◌, ◌<◌, ◌++◌, true, IfSome, length, inl, inr, refl, subst, arith}
+use Rattle.std.proofs.Common.{rules, ◌≡◌, ℕ, ◌+◌, ◌-◌, ◌≤◌, ◌<◌, ◌++◌, true, IsErrOf, IfSome, length, inl, inr, refl, subst, arith}
 use Rattle.std.specs.Prelude.{slice_get}
 use Rattle.disk_defs.proofs.Frames.{reads_more}
 use Rattle.global_defs.specs.Entry.{Entry}
 use Rattle.global_defs.specs.Extract.{entry_text}
 use Rattle.site_store.specs.Site.{count_of}
+use Rattle.site_store.specs.declared.error.SiteError.TheVariants.{NotAFile}
 use Rattle.site_store.proofs.Unwritten.{site_read, open_read}
 use Rattle.site_runner.proofs.Shown.{none_yet, entry_more, entries_done, some_none, some_more, some_done}
 use Rattle.site_runner.proofs.extracting.write_entries.Goals as goal
@@ -46,10 +47,10 @@ loop-place-preserved g c =
     }
 
 pub returns-in_err-extract-clause-outside : goal.returns-in_err-extract-clause-outside
-returns-in_err-extract-clause-outside g c file offset failed x h is =
+returns-in_err-extract-clause-outside g c file offset is x h opened =
     let view = g.D.Disk.disk in
-    let given = c.from_residual.ensures in
-    c.in_err-extract.ensures.outside file offset (search rules) x h (open_read (view c.args.disk.now) (view c.loop-place.disk) true x h c.args.site.now c.loop-place.invariant.reads is)
+    let failed : IsErrOf c.extract.result (NotAFile file offset) = search (rules, is) in
+    c.extract.ensures.outside file offset failed x h (open_read (view c.args.disk.now) (view c.loop-place.disk) true x h c.args.site.now c.loop-place.invariant.reads opened)
 
 pub returns-in_err-extract-clause-reads : goal.returns-in_err-extract-clause-reads
 returns-in_err-extract-clause-reads g c =
