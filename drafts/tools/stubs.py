@@ -23,6 +23,11 @@ def is_built(d):
 def stub(cr):
     n=0
     base=f'{DST}/crates/{cr}'
+    home={}
+    for f in glob.glob(f'{base}/src/**/*.rt',recursive=True):
+        r=os.path.relpath(f,f'{base}/src')[:-3].split('/')
+        if r[-1] in('lib','mod'): r=r[:-1]
+        for m in re.finditer(r'^(?:pub(?:\(\w+\))? )?(?:struct|enum) (\w+)',open(f).read(),re.M): home[m.group(1)]=r
     for f in glob.glob(f'{base}/src/**/*.rt',recursive=True):
         rel=os.path.relpath(f,f'{base}/src')[:-3].split('/')
         if rel[-1] in('lib','mod'): rel=rel[:-1]
@@ -40,7 +45,7 @@ def stub(cr):
             if not m: continue
             if any('#[test]' in x for x in lines[max(0,i-3):i]): continue
             if m.group(1)=='' : path=rel+[m.group(2)]
-            elif len(m.group(1))==4 and ctx: path=rel+[ctx,m.group(2)]
+            elif len(m.group(1))==4 and ctx: path=home.get(ctx,rel)+[ctx,m.group(2)]
             else: continue
             edits.append((i,len(m.group(1))))
             d=f'{base}/proofs/'+'/'.join(path)
