@@ -5,10 +5,12 @@ use Rattle.std.proofs.lemmas.Bool.{cases_lt}
 use Rattle.std.proofs.lemmas.List.{length-take, length-take-le, length-drop, take_all, get_or-take, get_or-append_right}
 use Rattle.std.proofs.lemmas.Nat.{mul-add-lt}
 use Rattle.std.proofs.Math.ListN.{get_or-append}
+use Rattle.disk_defs.specs.Disk.{Files}
 use Rattle.disk_defs.proofs.Texts.{length-framed}
 use Rattle.global_defs.specs.Entry.{Reign, Entry, Sequence}
 use Rattle.global_defs.specs.Prefix.{stamp_at}
 use Rattle.journal_defs.specs.Journal.{JournalRecord, Tcom, Part}
+use Rattle.journal_defs.specs.Numbers.{journal_file}
 use Rattle.journal_defs.specs.Sequence.{entry_with}
 use Rattle.jnl_index.specs.Places.{StandsAt}
 use Rattle.entry_index.specs.declared.place.PartPlace.{PartPlace}

@@ -1,5 +1,5 @@
 //! Entries read from the places of their parts.
-ghost use Rattle.std.specs.Prelude.{◌≡◌, ◌≤◌, ◌<◌, ℕ, [], ◌∷◌, ◌++◌, map, length, Option, get_or, None, IfOk, OnOk, IfSome, IsErrOf};
+ghost use Rattle.std.specs.Prelude.{◌≡◌, ◌≤◌, ◌<◌, ℕ, List, [], ◌∷◌, ◌++◌, map, length, Option, get_or, None, IfOk, OnOk, IfSome, IsErrOf};
 ghost use Rattle.std.specs.Option.{option_map};
 ghost use Rattle.disk_defs.specs.Disk.{Reads, Rose};
 ghost use Rattle.global_defs.specs.Entry as defs;
@@ -9,7 +9,7 @@ ghost use Rattle.jnl_record.specs.Values.{record_value};
 ghost use Rattle.mupip_recover.specs.Parts.{part_value};
 ghost use Rattle.mupip_recover.specs.Table.{part_in_column};
 ghost use Rattle.mupip_recover.specs.Entries.{stamped};
-ghost use Rattle.entry_index.specs.Parts.{InFiles, IsPartAt, AreParts, part_with, read_value};
+ghost use Rattle.entry_index.specs.Parts.{InFiles, NOWHERE, IsPartAt, AreParts, part_with, read_value};
 
 use crate::error::{IndexError, in_file};
 use crate::place::PartPlace;

@@ -8,6 +8,8 @@ mod bad_lines;
 #[cfg(test)]
 mod epochs;
 #[cfg(test)]
+mod extracts;
+#[cfg(test)]
 mod faults;
 #[cfg(test)]
 mod jobs;

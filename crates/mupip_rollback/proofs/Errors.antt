@@ -30,6 +30,20 @@ site_file sites.ReignLimit file offset is = absurd (cc is)
 pub site_was : {T U : Type 0} (x : SiteError) (y : RollError) (file offset : ℕ) → y ≡ site_error x → IsErrOf {T = T} (Err y) (error.NotAFile file offset) → IsErrOf {T = U} (Err x) (sites.NotAFile file offset)
 site_was x y file offset same is = let there : y ≡ error.NotAFile file offset = cc is in ap Err (site_file x file offset (cc (same, there)))
 
+site_fault : (x : SiteError) (fault : ℕ) → site_error x ≡ error.Failed fault → x ≡ sites.Failed fault
+site_fault (sites.Failed f) fault is = let one : f ≡ fault = cc is in λ i. sites.Failed (one i)
+site_fault (sites.NotAFile f o) fault is = absurd (cc is)
+site_fault sites.GenLimit fault is = absurd (cc is)
+site_fault (sites.NeedForward r) fault is = absurd (cc is)
+site_fault sites.NoMemory fault is = absurd (cc is)
+site_fault (sites.Stopped f) fault is = absurd (cc is)
+site_fault (sites.Full n) fault is = absurd (cc is)
+site_fault sites.SeqLimit fault is = absurd (cc is)
+site_fault sites.ReignLimit fault is = absurd (cc is)
+
+pub failed_was : {T U : Type 0} (x : SiteError) (y : RollError) (fault : ℕ) → y ≡ site_error x → IsErrOf {T = T} (Err y) (error.Failed fault) → IsErrOf {T = U} (Err x) (sites.Failed fault)
+failed_was x y fault same is = let there : y ≡ error.Failed fault = cc is in ap Err (site_fault x fault (cc (same, there)))
+
 -- an epoch's error
 pub epoch_was : {T U : Type 0} (x : SiteError) (y : RollError) → y ≡ site_error x → ((fault : ℕ) × IsErrOf {T = T} (Err x) (sites.Failed fault)) ⊎ IsErrOf {T = T} (Err x) sites.NoMemory
     → ((fault : ℕ) × IsErrOf {T = U} (Err y) (error.Failed fault)) ⊎ IsErrOf {T = U} (Err y) error.NoMemory

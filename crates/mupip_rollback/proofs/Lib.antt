@@ -3,7 +3,9 @@ mod Begun
 mod Closed
 mod Cuts
 mod Errors
+mod Firsts
 mod Founded
+mod Lost
 mod Moded
 mod Modes
 mod Prepared

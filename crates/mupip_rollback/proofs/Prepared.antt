@@ -1,34 +1,37 @@
 -- A standing site of which the first entries are kept.
-use Rattle.std.proofs.Common.{◌≡◌, ℕ, suc, ◌+◌, ◌≤◌, ◌<◌, false, List, [], ◌∷◌, ◌++◌, length, map, take, min, IfSome, Result, Ok, Err, IfOk, OnOk, refl, sym, ◌∙◌, ap, subst, arith}
-use Rattle.std.proofs.lemmas.List.{length-take-le}
+use Rattle.std.proofs.Common.{◌≡◌, ℕ, suc, ◌+◌, ◌≤◌, ◌<◌, false, List, [], ◌∷◌, ◌++◌, length, map, min, IfSome, Result, Ok, Err, IfOk, OnOk, refl, sym, ◌∙◌, ap, subst, arith}
 use Rattle.disk_defs.specs.Disk.{Files, View, Image, IsLawful, Reads, AtEachMoment}
 use Rattle.disk_defs.proofs.Told.{weaker_told, both_weak, told_at}
 use Rattle.disk_defs.proofs.Moments.{holds_now, read_only}
+use Rattle.entry_index.specs.Found.{entry_count}
+use Rattle.entry_index.specs.declared.index.EntryIndex.{EntryIndex}
 use Rattle.global_defs.specs.Entry.{Sequence}
 use Rattle.global_defs.specs.Extract.{extract}
 use Rattle.journal_defs.specs.Instance.{InstanceRecord, Create, Reigned, Cut, Map, Mode, NamedMode, generation, regions, site_name}
 use Rattle.journal_defs.specs.Directory.{patterns}
-use Rattle.journal_defs.specs.Sequence.{Records, IsSequence}
+use Rattle.journal_defs.specs.Sequence.{Placed, Records, IsSequence}
 use Rattle.journal_defs.specs.Stands.{AreRecords}
 use Rattle.journal_laws.proofs.Drawing as drawing
 use Rattle.journal_laws.proofs.EveryTarget.{patterns_same}
+use Rattle.region_opening.specs.Signs.{AllSay}
 use Rattle.site_defs.specs.Contents.{Contents, Leftover}
 use Rattle.site_defs.specs.OutsideBlocks.{IsOutsideRollback}
 use Rattle.site_defs.specs.Stands.{IsSite, HasLeft}
-use Rattle.site_files.specs.Loading.{WasRead, AreUnbegun, next_cut, last_of}
-use Rattle.site_files.proofs.Kept.{held_read}
+use Rattle.site_files.specs.Loading.{AreUnbegun, next_cut}
 use Rattle.site_regions.specs.Joined.{Joined}
 use Rattle.site_store.specs.declared.layout.Layout.{Layout}
 use Rattle.site_store.specs.declared.preparing.FoundFiles.{FoundFiles}
 use Rattle.site_store.specs.declared.preparing.StandingSite.{StandingSite}
 use Rattle.site_store.specs.Finding.{HasLayout, mapping_of}
+use Rattle.site_store.specs.Needing.{NoneIsWithout}
 use Rattle.site_store.specs.Opening.{region_value, EachStands, AreTextsDurable, AreDatabasesDurable}
-use Rattle.site_store.specs.Standing.{HasFound, WasFound, IsFoundAs, IsOpenFor, found_records, found_entries}
-use Rattle.site_store.proofs.Founded.{found_moved, open_moved}
+use Rattle.site_store.specs.Standing.{HasFound, WasFound, IsFoundIn, IsFoundAs, IsOpenFor, IfFound, found_records, found_signs}
+use Rattle.site_store.proofs.Founded.{Given, found_count, found_moved, open_moved}
+use Rattle.site_store.proofs.Without.{signs_say}
 use Rattle.mupip_rollback.specs.declared.error.RollError.{RollError}
 use Rattle.mupip_rollback.specs.declared.preparing.Prepared.{Prepared}
-use Rattle.mupip_rollback.specs.Preparing.{IsPrepared, KeepsFirst, cut_records}
-use Rattle.site_store.specs.Needing.{NoneIsWithout}
+use Rattle.mupip_rollback.specs.Preparing.{AreFirst, IsPrepared, KeepsFirst, cut_records}
+use Rattle.mupip_rollback.proofs.Firsts.{first_count}
 use Rattle.mupip_rollback.proofs.Founded as founded
 
 -- another record
@@ -60,7 +63,7 @@ one_more_cut rs n m k kept some name named directory newest is =
 
 pub was_here : (u v : View) (f : FoundFiles) → v.content ≡ u.content → WasFound u v f → WasFound v v f
 was_here u v f same was = record {
-  read = told_at v.content u.content (WasRead v f.read.log.records (last_of f.read.last_began.items) (found_records f).journal) (sym same) was.read;
+  told = told_at v.content u.content (Given v f) (sym same) was.told;
   texts = told_at v.content u.content (AreTextsDurable v (generation f.read.log.records)) (sym same) was.texts;
   databases = told_at v.content u.content (AreDatabasesDurable v (length (regions f.read.log.records))) (sym same) was.databases;
 }
@@ -68,58 +71,70 @@ was_here u v f same was = record {
 abbrev pub IsAhead : View → View → FoundFiles → Type 0
 IsAhead v w f = IfSome v.content (λ _. (d : Files) → Image w d → AreUnbegun (suc (suc (generation f.read.log.records))) (length (regions f.read.log.records)) d)
 
-pub prepared : (v w : View) (f : FoundFiles) (t : ℕ) (k : StandingSite) (p : Prepared) → IsLawful w → Reads v w → HasFound f → t ≤ length f.entries → IsFoundAs f k → IsOpenFor v w f t k.globals
-    → p.log ≡ k.log → p.length ≡ length k.entries → p.broken ≡ k.broken → p.lost ≡ extract (site_name f.read.log.records) (found_entries f) (t + 1) → KeepsFirst t k p.kept
+-- the text of those that are to go behind the first t
+abbrev pub IsLost : List ℕ → ℕ → FoundFiles → Files → Type 0
+IsLost text t f = IfFound f (λ u seq files. text ≡ extract (site_name u.instance) seq (t + 1))
+
+pub prepared : (v w : View) (f : FoundFiles) (t : ℕ) (k : StandingSite) (p : Prepared) (lost : List ℕ) → IsLawful w → Reads v w → HasFound f → t ≤ entry_count f.entries → IsFoundAs f k → IsOpenFor v w f t k.globals
+    → p.log ≡ k.log → p.length ≡ entry_count k.entries → p.broken ≡ k.broken → p.lost ≡ lost → IfSome v.content (IsLost lost t f) → KeepsFirst t k p.kept
     → WasFound v v f → IsAhead v v f → IsPrepared w p
-prepared v w f t k p lawful reads has most stays regions_open log count broken lost kept was ahead =
+prepared v w f t k p text lawful reads has most stays regions_open log count broken same lost kept was ahead =
     let rs = f.read.log.records in
     let run = read_only v w reads in
-    let items : p.kept.entries ≡ take t f.entries = kept.entries ∙ ap (take t) stays.entries in
-    let size : length p.kept.entries ≡ t = ap length items ∙ length-take-le t f.entries most in
+    let wide = has.each_place in
+    let some = has.form.some_region in
+    let rows : AreFirst t f.entries p.kept.entries = subst (λ (i : EntryIndex). AreFirst t i p.kept.entries) stays.entries kept.entries in
+    let size : entry_count p.kept.entries ≡ t = first_count t f.entries p.kept.entries rows (omega (arith, wide, some)) has.whole most in
     record {
       found = f;
       has = has;
       was = was_here v w f reads.content (found_moved v v w f lawful run was);
       log = log ∙ stays.log;
-      counted = count ∙ ap length stays.entries;
+      counted = count ∙ ap entry_count stays.entries;
       broken = broken ∙ stays.broken;
       last_began = kept.last_began ∙ stays.last_began;
       most = omega (arith, size, most);
-      entries = items ∙ ap (λ (n : ℕ). take n (found_entries f)) (sym size);
+      entries = subst (λ (n : ℕ). AreFirst n f.entries p.kept.entries) (sym size) rows;
       layout = λ n m. one_more_cut rs n m k.layout p.kept.layout has.form.some_region kept.name kept.regions kept.directory kept.generation (stays.layout n);
       regions_open = subst (λ (n : ℕ). IsOpenFor w w f n p.kept.globals) (sym size) (subst (λ (j : Joined). IsOpenFor w w f t j) (sym kept.globals) (open_moved false w v w f t k.globals (sym reads.content) regions_open));
-      lost = lost ∙ ap (λ (n : ℕ). extract (site_name rs) (found_entries f) (n + 1)) (sym size);
+      lost = subst (λ (n : ℕ). IfSome w.content (IsLost p.lost n f)) (sym size) (subst (λ (l : List ℕ). IfSome w.content (IsLost l t f)) (sym same) (told_at w.content v.content (IsLost text t f) (sym reads.content) lost));
       ahead = told_at w.content v.content (λ _. (d : Files) → Image w d → AreUnbegun (suc (suc (generation rs))) (length (regions rs)) d) (sym reads.content)
           (weaker_told v.content (λ _. (d : Files) → Image v d → AreUnbegun (suc (suc (generation rs))) (length (regions rs)) d) (λ _. (d : Files) → Image w d → AreUnbegun (suc (suc (generation rs))) (length (regions rs)) d) ahead
           (λ files none d image. none d (holds_now v w (Image v) lawful run d image)));
     }
 
 -- what was found of it, before anything else is known
-module _ (u v : View) (f : FoundFiles) (has : HasFound f) (was : WasFound u v f) (to t : ℕ) (t_is : t ≡ min to (length f.entries)) where
-  t_so : t ≡ min to (length (found_entries f))
-  t_so = t_is
+module _ (u v : View) (f : FoundFiles) (has : HasFound f) (was : WasFound u v f) (to t : ℕ) (t_is : t ≡ min to (entry_count f.entries)) where
+  t_so : (files : Files) (journal : ℕ → List Placed) (seq : Sequence) → IsFoundIn v f journal seq files → t ≡ min to (length seq)
+  t_so files journal seq is = t_is ∙ ap (min to) (found_count v f journal seq files has is)
 
-  pub place_at : (file offset : ℕ) → v.content ≡ u.content → IfSome v.content (λ files. AreRecords files (found_records f) → IsOutsideRollback to files file offset) → IfSome u.content (λ files. IsOutsideRollback to files file offset)
-  place_at file offset same out = both_weak u.content (WasRead v f.read.log.records (last_of f.read.last_began.items) (found_records f).journal) (λ files. AreRecords files (found_records f) → IsOutsideRollback to files file offset)
-      (λ files. IsOutsideRollback to files file offset) was.read
-      (told_at u.content v.content (λ files. AreRecords files (found_records f) → IsOutsideRollback to files file offset) same out)
-      (λ files r here. here (held_read f.read.log.records (last_of f.read.last_began.items) (found_records f).journal files r.holds))
+  pub place_at : (file offset : ℕ) → v.content ≡ u.content → IfSome v.content (IfFound f (λ x seq files. IsOutsideRollback to files file offset)) → IfSome u.content (λ files. IsOutsideRollback to files file offset)
+  place_at file offset same out = both_weak u.content (Given v f) (IfFound f (λ x seq files. IsOutsideRollback to files file offset)) (λ files. IsOutsideRollback to files file offset) was.told
+      (told_at u.content v.content (IfFound f (λ x seq files. IsOutsideRollback to files file offset)) same out)
+      (λ files x here. here (found_records f x.0) x.1 x.2.found)
 
-  pub told_without : (P : Records → ℕ → Type 0) → P (found_records f) t → IfSome u.content (λ files. (x : Records) × (es : Sequence) × AreRecords files x × IsSequence x es × P x (min to (length es)))
-  told_without P is = founded.held_so u v f has was (λ x es. P x (min to (length es))) (subst (P (found_records f)) t_so is)
+  -- what is so of all records of which the signs say so
+  so_of : (P : Records → ℕ → Type 0) → ((journal : ℕ → List Placed) → AllSay (found_signs f) journal → P (found_records f journal) t)
+      → (files : Files) (journal : ℕ → List Placed) (seq : Sequence) → IsFoundIn v f journal seq files → P (found_records f journal) (min to (length seq))
+  so_of P all files journal seq is = subst (P (found_records f journal)) (t_so files journal seq is) (all journal (signs_say files (found_signs f) journal is.found.are_signs))
 
-  pub held_of : (o : Result Prepared RollError) → IfOk o (λ p. p.log.records ≡ f.read.log.records) → IfOk o (λ p. length p.kept.entries ≡ t) → OnOk o (NoneIsWithout (found_records f) t)
-      → IfOk o (λ p. IfSome u.content (λ files. (x : Records) × (es : Sequence) × AreRecords files x × IsSequence x es × (x.instance ≡ p.log.records) × (length p.kept.entries ≡ min to (length es)) × NoneIsWithout x (min to (length es))))
+  pub told_without : (P : Records → ℕ → Type 0) → ((journal : ℕ → List Placed) → AllSay (found_signs f) journal → P (found_records f journal) t)
+      → IfSome u.content (λ files. (x : Records) × (es : Sequence) × AreRecords files x × IsSequence x es × P x (min to (length es)))
+  told_without P all = founded.held_so u v f has was (λ x es. P x (min to (length es))) (so_of P all)
+
+  pub held_of : (o : Result Prepared RollError) → IfOk o (λ p. p.log.records ≡ f.read.log.records) → IfOk o (λ p. entry_count p.kept.entries ≡ t)
+      → OnOk o ((journal : ℕ → List Placed) → AllSay (found_signs f) journal → NoneIsWithout (found_records f journal) t)
+      → IfOk o (λ p. IfSome u.content (λ files. (x : Records) × (es : Sequence) × AreRecords files x × IsSequence x es × (x.instance ≡ p.log.records) × (entry_count p.kept.entries ≡ min to (length es)) × NoneIsWithout x (min to (length es))))
   held_of (Err e) records kept none = tt
-  held_of (Ok p) records kept none = weaker_told u.content (WasRead v f.read.log.records (last_of f.read.last_began.items) (found_records f).journal)
-      (λ files. (x : Records) × (es : Sequence) × AreRecords files x × IsSequence x es × (x.instance ≡ p.log.records) × (length p.kept.entries ≡ min to (length es)) × NoneIsWithout x (min to (length es))) was.read
-      (λ files r. (found_records f, found_entries f, held_read f.read.log.records (last_of f.read.last_began.items) (found_records f).journal files r.holds, has.sequence, sym records, kept ∙ t_so, subst (NoneIsWithout (found_records f)) t_so none))
+  held_of (Ok p) records kept none = weaker_told u.content (Given v f)
+      (λ files. (x : Records) × (es : Sequence) × AreRecords files x × IsSequence x es × (x.instance ≡ p.log.records) × (entry_count p.kept.entries ≡ min to (length es)) × NoneIsWithout x (min to (length es))) was.told
+      (λ files x. (found_records f x.0, x.1, x.2.found.held, x.2.found.sequence, sym records, kept ∙ t_so files x.0 x.1 x.2, so_of NoneIsWithout none files x.0 x.1 x.2))
 
-  pub kept_of : (o : Result Prepared RollError) → IfOk o (λ p. p.length ≡ length f.entries) → IfOk o (λ p. length p.kept.entries ≡ t) → IfOk o (λ p. length p.kept.entries ≡ min to p.length)
+  pub kept_of : (o : Result Prepared RollError) → IfOk o (λ p. p.length ≡ entry_count f.entries) → IfOk o (λ p. entry_count p.kept.entries ≡ t) → IfOk o (λ p. entry_count p.kept.entries ≡ min to p.length)
   kept_of (Err e) all kept = tt
   kept_of (Ok p) all kept = omega (arith, all, kept, t_is)
 
-  pub site_of : (w : View) (o : Result Prepared RollError) → IsLawful v → IsLawful w → AtEachMoment u v (Image u) → Reads v w → IfOk o (λ p. p.length ≡ length f.entries)
+  pub site_of : (w : View) (o : Result Prepared RollError) → IsLawful v → IsLawful w → AtEachMoment u v (Image u) → Reads v w → IfOk o (λ p. p.length ≡ entry_count f.entries)
       → IfOk o (λ p. IfSome u.content (λ files. (c : Contents) → IsSite files c → (p.length ≡ length c.sequence) × (EachStands u → (d : Files) → Image w d → IsSite d c)))
   site_of w (Err e) lawful lawful_w synced reads all = tt
   site_of w (Ok p) lawful lawful_w synced reads all =

@@ -1,15 +1,21 @@
 -- A site is rolled back that was prepared for it.
-use Rattle.std.proofs.Common.{◌≡◌, inl, inr, ℕ, suc, ◌+◌, ◌≤◌, ◌<◌, ◌^◌, List, [], length, take, Option, Some, None, IfSome, true, refl, sym, ◌∙◌, ap, subst, arith}
+use Rattle.std.proofs.Common.{◌≡◌, inl, inr, ℕ, suc, ◌+◌, ◌≤◌, ◌<◌, ◌^◌, false, List, [], length, take, Option, Some, None, IfSome, true, refl, sym, ◌∙◌, ap, subst, arith}
 use Rattle.std.proofs.lemmas.List.{length-take-le}
 use Rattle.disk_defs.specs.Disk.{Files, View, Image, IsLawful, From, ReadsAfter, AtEachMoment}
 use Rattle.disk_defs.specs.Frames.{SameOutside, OthersStay}
 use Rattle.disk_defs.specs.Gates.{records}
 use Rattle.disk_defs.proofs.Told.{weaker_told, both_weak, reads_after}
 use Rattle.disk_defs.proofs.Moments.{weaker, then_more}
+use Rattle.entry_index.specs.Found.{IsWhole, entry_count}
 use Rattle.global_defs.specs.Entry.{Sequence, state}
-use Rattle.journal_defs.specs.Instance.{InstanceRecord, NamedMode, generation, regions}
+use Rattle.global_defs.specs.Extract.{extract}
+use Rattle.jnl_index.specs.Order.{StandUpTo}
+use Rattle.journal_defs.specs.Fit.{IsSoundImage}
+use Rattle.journal_defs.specs.Growth.{with_record}
+use Rattle.journal_defs.specs.Instance.{InstanceRecord, NamedMode, generation, regions, site_name}
 use Rattle.journal_defs.specs.Numbers.{journal_file, database_file}
 use Rattle.journal_defs.specs.Sequence.{Placed, Records}
+use Rattle.journal_defs.specs.Surviving.{reigns}
 use Rattle.journal_laws.proofs.EveryTarget.{patterns_same}
 use Rattle.journal_laws.proofs.Targets.{cut_keeps}
 use Rattle.site_defs.specs.Behind.{IsSiteWith}
@@ -26,25 +32,24 @@ use Rattle.site_store.specs.Needing.{NoneNeeds}
 use Rattle.site_store.specs.declared.preparing.FoundFiles.{FoundFiles}
 use Rattle.site_store.specs.declared.site.OpenSite.{OpenSite}
 use Rattle.site_store.specs.Opening.{AreDatabasesDurable}
-use Rattle.site_store.specs.Site.{AreHeld, AreOnBlocks, AreSynced, IsOpen}
-use Rattle.site_store.specs.Standing.{found_records, found_entries}
+use Rattle.site_store.specs.Site.{AreHeld, AreOnBlocks, AreSynced, StandOn, IsOpen}
+use Rattle.site_store.specs.Standing.{IfFound, found_records}
 use Rattle.site_store.proofs.Drawn.{C}
-use Rattle.journal_defs.specs.Fit.{IsSoundImage}
-use Rattle.journal_defs.specs.Growth.{with_record}
+use Rattle.site_store.proofs.Founded.{Given, found_count}
 use Rattle.site_store.proofs.HeldRegions.{held_stays}
+use Rattle.site_store.proofs.Indexing.{index_cut, stand_images, stand_same}
 use Rattle.site_store.proofs.OnBlocks.{on_same, on_chosen}
 use Rattle.site_store.proofs.Rolled.{standing_either_cut}
+use Rattle.site_store.proofs.TheFiles.{told_then, as_told, at_files}
 use Rattle.mupip_rollback.specs.Cutting.{IsShort, MaySetAside, HasSetAside, AreSetAside, IsCutOff}
 use Rattle.mupip_rollback.specs.Preparing.{IsPrepared, cut_records}
 use Rattle.mupip_rollback.specs.Rolling.{StandsFor, MayStandRolled}
 use Rattle.mupip_rollback.specs.declared.preparing.Prepared.{Prepared}
 use Rattle.mupip_rollback.proofs.Closed.{stands_for}
 use Rattle.mupip_rollback.proofs.Cuts as cuts
+use Rattle.mupip_rollback.proofs.Firsts.{first_index, first_whole}
+use Rattle.mupip_rollback.proofs.Prepared.{IsLost}
 use Rattle.mupip_rollback.proofs.Sites.{standing_of}
-
--- an image there is
-pub as_read : (v : View) (P : Files → Type 0) (Q : Files → Type 0) → IsLawful v → IfSome v.content P → ((f : Files) → Image v f → P f → Q f) → IfSome v.content Q
-as_read v P Q lawful p k = both_weak v.content (λ f. v.since v.moment f) P Q lawful.as_read p k
 
 module _ (v : View) (p : Prepared) (P : IsPrepared v p) where
   abbrev f : FoundFiles
@@ -56,46 +61,50 @@ module _ (v : View) (p : Prepared) (P : IsPrepared v p) where
   abbrev last : ℕ → ℕ
   last = last_of f.read.last_began.items
 
-  abbrev journal : ℕ → List Placed
-  journal = (found_records f).journal
-
-  abbrev seq : Sequence
-  seq = found_entries f
-
   abbrev many : ℕ
   many = length (regions rs)
 
+  -- how many entries it has, and how many stay
+  abbrev pub n : ℕ
+  n = entry_count f.entries
+
   abbrev pub t : ℕ
-  t = length p.kept.entries
+  t = entry_count p.kept.entries
 
-  size : p.length ≡ length seq
-  size = P.counted
-
-  most : t ≤ length seq
-  most = P.most
-
-  few : length seq < 2 ^ 40
+  few : n < 2 ^ 40
   few = P.has.few
 
   abbrev qs : List InstanceRecord
-  qs = cut_records rs (length seq)
+  qs = cut_records rs n
 
   form_on : MayBeOpened qs last
-  form_on = ahead.still_opened rs (length seq) last P.has.form P.has.low few
+  form_on = ahead.still_opened rs n last P.has.form P.has.low few
+
+  -- what was read of it
+  pub read_at : IfSome v.content (λ files. (ended : ℕ → ℕ) × (journal : ℕ → List Placed) × WasRead v p.log.records ended journal files)
+  read_at = subst (λ l. IfSome v.content (λ files. (ended : ℕ → ℕ) × (journal : ℕ → List Placed) × WasRead v l.records ended journal files)) (sym P.log)
+      (weaker_told v.content (Given v f) (λ files. (ended : ℕ → ℕ) × (journal : ℕ → List Placed) × WasRead v rs ended journal files) P.was.told (λ files x. (last, x.0, x.2.read)))
+
+  -- the rows of what stays
+  pub whole_at : IsWhole p.kept.entries
+  whole_at = let wide = P.has.each_place in let some = P.has.form.some_region in first_whole t f.entries p.kept.entries P.entries (omega (arith, wide, some)) P.has.whole P.most
 
   -- the records behind the first CUT
   pub own : (is : List InstanceRecord) → is ≡ cut_records p.log.records p.length → is ≡ qs
-  own is same = same ∙ ap (λ l. cut_records l.records p.length) P.log ∙ ap (cut_records rs) size
+  own is same = same ∙ ap (λ l. cut_records l.records p.length) P.log ∙ ap (cut_records rs) P.counted
 
   module _ (is : List InstanceRecord) (same : is ≡ cut_records p.log.records p.length) where
     pub form_at : MayBeOpened is (last_of p.kept.last_began.items)
     form_at = subst (λ (l : List InstanceRecord). MayBeOpened l (last_of p.kept.last_began.items)) (sym (own is same)) (subst (λ l. MayBeOpened qs (last_of l.items)) (sym P.last_began) form_on)
 
     as_many : regions is ≡ regions rs
-    as_many = ap regions (own is same) ∙ ahead.regions_kept rs (length seq) last P.has.form
+    as_many = ap regions (own is same) ∙ ahead.regions_kept rs n last P.has.form
+
+    pub places_at : p.kept.entries.regions ≡ length (regions is)
+    places_at = P.entries.regions ∙ P.has.each_place ∙ ap length (sym as_many)
 
     next : generation is ≡ suc (generation rs)
-    next = ap generation (own is same) ∙ ahead.newest rs (length seq) last P.has.form
+    next = ap generation (own is same) ∙ ahead.newest rs n last P.has.form
 
     module _ (x : View) (stays : OthersStay (AreSetAside rs) v x) where
       no_database : (r : ℕ) → r < many → AreSetAside rs (database_file r) → ⊥
@@ -107,6 +116,11 @@ module _ (v : View) (p : Prepared) (P : IsPrepared v p) where
       no_journal r here (inl e) = omega (arith, e)
       no_journal r here (inr (inl e)) = let fewer = P.has.form.few_regions in let low = P.has.low in omega (arith, e, here, fewer, low)
       no_journal r here (inr (inr e)) = let fewer = P.has.form.few_regions in let low = P.has.low in omega (arith, e, here, fewer, low)
+
+      no_older : (r : ℕ) → r < many → (h : ℕ) → h ≤ generation rs → AreSetAside rs (journal_file h r) → ⊥
+      no_older r here h low (inl e) = omega (arith, e)
+      no_older r here h low (inr (inl e)) = let fewer = P.has.form.few_regions in let room = P.has.low in omega (arith, e, here, fewer, low, room)
+      no_older r here h low (inr (inr e)) = let fewer = P.has.form.few_regions in let room = P.has.low in omega (arith, e, here, fewer, low, room)
 
       pub regions_at : AreHeld x (length (regions is)) p.kept.globals
       regions_at = subst (λ (l : List NamedMode). AreHeld x (length l) p.kept.globals) (sym as_many) (held_stays v x (AreSetAside rs) many p.kept.globals stays no_database P.regions_open.regions)
@@ -124,34 +138,31 @@ module _ (v : View) (p : Prepared) (P : IsPrepared v p) where
         abbrev pub IsAll : Contents → Type 0
         IsAll c = (d : Files) → Image v d → IsSite d c
 
-        abbrev pub Whole : Files → Type 0
-        Whole files = WasRead v rs last journal files × ((d : Files) → Image v d → AreUnbegun (suc (suc (generation rs))) many d)
+        abbrev pub Aside : ℕ → Files → Type 0
+        Aside k files = IsShort rs f.broken files → AtEachMoment v x (From (Image v) (MaySetAside rs k f.broken p.lost))
 
-        abbrev pub Aside : Files → Type 0
-        Aside files = IsShort rs f.broken files → AtEachMoment v x (From (Image v) (MaySetAside rs (length seq) f.broken p.lost))
-
-        abbrev pub Done : Files → Type 0
-        Done files = IsShort rs f.broken files → (d : Files) → Image x d → From (Image v) (HasSetAside rs (length seq) f.broken p.lost) d
+        abbrev pub Done : ℕ → Files → Type 0
+        Done k files = IsShort rs f.broken files → (d : Files) → Image x d → From (Image v) (HasSetAside rs k f.broken p.lost) d
 
         abbrev pub Rolling : View → Contents → Type 0
         Rolling w c = AtEachMoment v w (MayStandRolled t (record { contents = c; broken = f.broken }))
 
         -- as the call has it
         abbrev pub AsideOf : List InstanceRecord → ℕ → (b l : List ℕ) → Type 0
-        AsideOf ls n b l = IfSome v.content (λ files. IsShort ls b files → AtEachMoment v x (From (Image v) (MaySetAside ls n b l)))
+        AsideOf ls k b l = IfSome v.content (λ files. IsShort ls b files → AtEachMoment v x (From (Image v) (MaySetAside ls k b l)))
 
         abbrev pub DoneOf : List InstanceRecord → ℕ → (b l : List ℕ) → Type 0
-        DoneOf ls n b l = IfSome v.content (λ files. IsShort ls b files → (d : Files) → Image x d → From (Image v) (HasSetAside ls n b l) d)
+        DoneOf ls k b l = IfSome v.content (λ files. IsShort ls b files → (d : Files) → Image x d → From (Image v) (HasSetAside ls k b l) d)
 
-        so : (F : List InstanceRecord → ℕ → (b l : List ℕ) → Type 0) (b l : List ℕ) → b ≡ p.broken → l ≡ p.lost → F p.log.records p.length b l → F rs (length seq) f.broken p.lost
+        so : (F : List InstanceRecord → ℕ → (b l : List ℕ) → Type 0) (b l : List ℕ) → b ≡ p.broken → l ≡ p.lost → F p.log.records p.length b l → F rs n f.broken p.lost
         so F b l b_is l_is h =
-            subst (λ (d : List ℕ). F rs (length seq) f.broken d) l_is (subst (λ (d : List ℕ). F rs (length seq) d l) (b_is ∙ P.broken)
-            (subst (λ (n : ℕ). F rs n b l) size (subst (λ k. F k.records p.length b l) P.log h)))
+            subst (λ (d : List ℕ). F rs n f.broken d) l_is (subst (λ (d : List ℕ). F rs n d l) (b_is ∙ P.broken)
+            (subst (λ (k : ℕ). F rs k b l) P.counted (subst (λ k. F k.records p.length b l) P.log h)))
 
-        pub aside_so : (b l : List ℕ) → b ≡ p.broken → l ≡ p.lost → AsideOf p.log.records p.length b l → IfSome v.content Aside
+        pub aside_so : (b l : List ℕ) → b ≡ p.broken → l ≡ p.lost → AsideOf p.log.records p.length b l → IfSome v.content (Aside n)
         aside_so b l b_is l_is h = so AsideOf b l b_is l_is h
 
-        pub done_so : (b l : List ℕ) → b ≡ p.broken → l ≡ p.lost → DoneOf p.log.records p.length b l → IfSome v.content Done
+        pub done_so : (b l : List ℕ) → b ≡ p.broken → l ≡ p.lost → DoneOf p.log.records p.length b l → IfSome v.content (Done n)
         done_so b l b_is l_is h = so DoneOf b l b_is l_is h
 
         abbrev pub RollingOf : View → List ℕ → Type 0
@@ -166,133 +177,195 @@ module _ (v : View) (p : Prepared) (P : IsPrepared v p) where
         pub closed_back : (z : View) → ClosedOf z f.broken → ClosedOf z p.broken
         closed_back z h = subst (λ (b : List ℕ). ClosedOf z b) (sym P.broken) h
 
-        whole : IfSome v.content Whole
-        whole = both_weak v.content (WasRead v rs last journal) (λ _. (d : Files) → Image v d → AreUnbegun (suc (suc (generation rs))) many d) Whole P.was.read P.ahead (λ files r none. (r, none))
-
-        short : (files : Files) → WasRead v rs last journal files → (c : Contents) → IsSite files c → IsShort rs f.broken files
-        short files r c is =
-            let sound = cuts.sound rs last journal seq P.has.form P.has.sequence P.has.low f.broken p.lost P.has.broken_is files r.holds c is in
-            let low = P.has.low in
-            let length_is = ap length P.has.broken_is in
-            let fewer = sound.clean.first_broken (suc (generation rs)) (omega arith, omega (arith, low)) (omega arith) in
-            record { broken_is = omega (arith, fewer, length_is); lost_is = sound.clean.lost (suc (generation rs)) (omega arith, omega (arith, low)) }
-
-        pub aside_moments : IfSome v.content Aside → IfSome v.content (λ _. (c : Contents) → IsAll c → Rolling x c)
-        aside_moments run = as_read v (λ files. Whole files × Aside files) (λ _. (c : Contents) → IsAll c → Rolling x c) lawful_v
-            (both_weak v.content Whole Aside (λ files. Whole files × Aside files) whole run (λ files a b. (a, b)))
-            (λ files here both c all.
-            weaker v x (From (Image v) (MaySetAside rs (length seq) f.broken p.lost)) (MayStandRolled t (record { contents = c; broken = f.broken }))
-            (λ d q. cuts.may_stand rs last journal seq P.has.form P.has.sequence P.has.low f.broken p.lost P.has.broken_is q.0 (image_read v rs last journal files both.0.0 q.0 q.1) c (all q.0 q.1) t P.lost d q.2)
-            (both.1 (short files both.0.0 c (all files here))))
-
         abbrev pub first_cut : Contents → Contents
         first_cut c = cut_with f.broken (lost_text t c) c
 
-        abbrev pub After : Contents → Type 0
-        After c = (d : Files) → Image x d → IsSiteWith d (bare (first_cut c)) × AreRead qs last journal d
-
-        after : (files : Files) → Image v files → Whole files → Done files → (c : Contents) → IsAll c → After c
-        after files here w done c all d image =
-            let q = done (short files w.0 c (all files here)) d image in
-            let a = q.0 in
-            let read = image_read v rs last journal files w.0 a q.1 in (
-              cuts.stands rs last journal seq P.has.form P.has.sequence P.has.low f.broken p.lost P.has.broken_is a read c (all a q.1) t P.lost d q.2,
-              cuts.read_on rs last journal seq P.has.form P.has.sequence P.has.low f.broken p.lost P.has.broken_is a read c (all a q.1) q.2.0 q.2.1 d (λ o out. q.2.2.others o out) (w.1 a q.1) few,
-            )
-
-        abbrev pub Found : Files → Type 0
-        Found files = Image v files × Whole files × Done files × AreDatabasesDurable v many files × AreOnBlocks files (found_records f) t p.kept.globals
-            × (IsSoundImage files (found_records f) seq → joined p.kept.globals ≡ state (take t seq))
-
-        found : IfSome v.content Done → IfSome v.content Found
-        found done =
-            both_weak v.content (λ files. (v.since v.moment files) × Whole files × Done files) (λ files. AreDatabasesDurable v many files × AreOnBlocks files (found_records f) t p.kept.globals × (IsSoundImage files (found_records f) seq → joined p.kept.globals ≡ state (take t seq))) Found
-            (both_weak v.content (λ files. v.since v.moment files) (λ files. Whole files × Done files) (λ files. (v.since v.moment files) × Whole files × Done files) lawful_v.as_read
-            (both_weak v.content Whole Done (λ files. Whole files × Done files) whole done (λ files a b. (a, b))) (λ files a b. (a, b.0, b.1)))
-            (both_weak v.content (AreDatabasesDurable v many) (λ files. AreOnBlocks files (found_records f) t p.kept.globals × (IsSoundImage files (found_records f) seq → joined p.kept.globals ≡ state (take t seq)))
-            (λ files. AreDatabasesDurable v many files × AreOnBlocks files (found_records f) t p.kept.globals × (IsSoundImage files (found_records f) seq → joined p.kept.globals ≡ state (take t seq))) P.was.databases
-            (both_weak v.content (λ files. AreOnBlocks files (found_records f) t p.kept.globals) (λ files. IsSoundImage files (found_records f) seq → joined p.kept.globals ≡ state (take t seq))
-            (λ files. AreOnBlocks files (found_records f) t p.kept.globals × (IsSoundImage files (found_records f) seq → joined p.kept.globals ≡ state (take t seq))) P.regions_open.blocks P.regions_open.nodes (λ files a b. (a, b))) (λ files a b. (a, b.0, b.1)))
-            (λ files a b. (a.0, a.1, a.2, b.0, b.1, b.2))
-
-        cut_so : (files : Files) → Found files → (c : Contents) → IsAll c → (e : Files) → Image x e → IsCutOff x qs (first_cut c) p.kept
-        cut_so files w c all e there =
-            let q = w.2 (short files w.1.0 c (all files w.0)) e there in
-            let a = q.0 in
-            let read = image_read v rs last journal files w.1.0 a q.1 in
-            let was = after files w.0 w.1 w.2 c all in
-            let cut : Records = with_record (found_records f) (next_cut rs (length seq)) in
-            let kept_many : regions qs ≡ regions rs = ahead.regions_kept rs (length seq) last P.has.form in
-            let as_before : (d : Files) → Image x d → (r : ℕ) → r < many → d (database_file r) ≡ files (database_file r) =
-            λ d image r here. let from = stays.images d image in from.2 (database_file r) (no_database r here) ∙ w.3 r here from.0 from.1 in
-            record {
-              journal = journal;
-              seq = seq;
-              sequence = (cuts.image rs last journal seq P.has.form P.has.sequence P.has.low f.broken p.lost P.has.broken_is a read c (all a q.1) q.2.0 q.2.1).sequence;
-              none = cuts.none_broken rs last journal seq P.has.form P.has.sequence P.has.low f.broken p.lost P.has.broken_is a read c (all a q.1);
-              most = most;
-              reads = λ d image. subst (λ l. AreRead qs (last_of l.items) journal d) (sym P.last_began) (was d image).1;
-              stands = λ d image. (was d image).0.site;
-              entries = P.entries;
-              synced = subst (λ (l : List NamedMode). AreSynced x (length l)) (sym kept_many) (λ d b i j r here. as_before b j r here ∙ sym (as_before d i r here));
-              on = λ d image. on_chosen d (found_records f) cut t t p.kept.globals (ap length kept_many) (patterns_same rs (next_cut rs (length seq)) refl)
-                  (λ r here. (refl, cut_keeps rs t (length seq) (generation rs + 1) (journal r) most))
-                  (on_same files d (found_records f) t p.kept.globals (as_before d image) w.4);
-              globals = w.5 (cuts.sound rs last journal seq P.has.form P.has.sequence P.has.low f.broken p.lost P.has.broken_is files w.1.0.holds c (all files w.0));
-            }
-
-        cut_at : (files : Files) → Found files → (c : Contents) → IsAll c → (e : Files) → Image x e → IsCutOff x is (first_cut c) p.kept
-        cut_at files w c all e there = subst (λ (l : List InstanceRecord). IsCutOff x l (first_cut c) p.kept) (sym (own is same)) (cut_so files w c all e there)
-
+        -- the files behind the first CUT, where the disk told them
         told_back : (A : Files → Type 0) → IfSome x.content A → IfSome v.content (λ _. (e : Files) × A e)
         told_back A told = among v.content x.content stays.content told
           where
-            among : (o n : Option Files) → ReadsAfter (SameOutside (AreSetAside rs)) o n → IfSome n A → IfSome o (λ _. (e : Files) × A e)
-            among None n stay h = tt
+            among : (o k : Option Files) → ReadsAfter (SameOutside (AreSetAside rs)) o k → IfSome k A → IfSome o (λ _. (e : Files) × A e)
+            among None k stay h = tt
             among (Some b) None stay h = absurd stay
             among (Some b) (Some d) stay h = (d, h)
+
+        -- the records that these files hold, and the sequence for which they stand
+        module _ (files : Files) (told : v.content ≡ Some files) (g : Given v f files) where
+          abbrev journal : ℕ → List Placed
+          journal = g.0
+
+          abbrev seq : Sequence
+          seq = g.1
+
+          abbrev S0 : Records
+          S0 = found_records f journal
+
+          size : n ≡ length seq
+          size = found_count v f journal seq files P.has g.2
+
+          most : t ≤ length seq
+          most = let low = P.most in let same = size in omega (arith, low, same)
+
+          few_so : length seq < 2 ^ 40
+          few_so = let low = few in let same = size in omega (arith, low, same)
+
+          here : Image v files
+          here = at_files v.content files (λ a. v.since v.moment a) told lawful_v.as_read
+
+          none_ahead : (d : Files) → Image v d → AreUnbegun (suc (suc (generation rs))) many d
+          none_ahead = at_files v.content files (λ _. (d : Files) → Image v d → AreUnbegun (suc (suc (generation rs))) many d) told P.ahead
+
+          lost_is : p.lost ≡ extract (site_name rs) seq (t + 1)
+          lost_is = at_files v.content files (IsLost p.lost t f) told P.lost S0 seq g.2.found
+
+          read : (a : Files) → Image v a → AreRead rs last journal a
+          read a image = image_read v rs last journal files g.2.read a image
+
+          sound : (a : Files) → AreRead rs last journal a → (c : Contents) → IsSite a c → IsSoundImage a S0 seq
+          sound a rd c is = cuts.sound rs last journal seq P.has.form g.2.found.sequence P.has.low f.broken p.lost g.2.broken_is a rd c is
+
+          short : (c : Contents) → IsSite files c → IsShort rs f.broken files
+          short c is =
+              let clean = (sound files g.2.read.holds c is).clean in
+              let low = P.has.low in
+              let length_is = ap length g.2.broken_is in
+              let fewer = clean.first_broken (suc (generation rs)) (omega arith, omega (arith, low)) (omega arith) in
+              record { broken_is = omega (arith, fewer, length_is); lost_is = clean.lost (suc (generation rs)) (omega arith, omega (arith, low)) }
+
+          aside_here : IfSome v.content (Aside n) → Aside (length seq) files
+          aside_here run = subst (λ (k : ℕ). Aside k files) size (at_files v.content files (Aside n) told run)
+
+          done_here : IfSome v.content (Done n) → Done (length seq) files
+          done_here done = subst (λ (k : ℕ). Done k files) size (at_files v.content files (Done n) told done)
+
+          aside_in : IfSome v.content (Aside n) → (c : Contents) → IsAll c → Rolling x c
+          aside_in run c all =
+              weaker v x (From (Image v) (MaySetAside rs (length seq) f.broken p.lost)) (MayStandRolled t (record { contents = c; broken = f.broken }))
+              (λ d q. cuts.may_stand rs last journal seq P.has.form g.2.found.sequence P.has.low f.broken p.lost g.2.broken_is q.0 (read q.0 q.1) c (all q.0 q.1) t lost_is d q.2)
+              (aside_here run (short c (all files here)))
+
+          abbrev ps : List InstanceRecord
+          ps = cut_records rs (length seq)
+
+          abbrev After : Contents → Type 0
+          After c = (d : Files) → Image x d → IsSiteWith d (bare (first_cut c)) × AreRead ps last journal d
+
+          after : IfSome v.content (Done n) → (c : Contents) → IsAll c → After c
+          after done c all d image =
+              let q = done_here done (short c (all files here)) d image in
+              let a = q.0 in (
+                cuts.stands rs last journal seq P.has.form g.2.found.sequence P.has.low f.broken p.lost g.2.broken_is a (read a q.1) c (all a q.1) t lost_is d q.2,
+                cuts.read_on rs last journal seq P.has.form g.2.found.sequence P.has.low f.broken p.lost g.2.broken_is a (read a q.1) c (all a q.1) q.2.0 q.2.1 d (λ o out. q.2.2.others o out) (none_ahead a q.1) few_so,
+              )
+
+          -- the database files and the journals that were drawn before are as they were
+          as_before : (d : Files) → Image x d → (r : ℕ) → r < many → d (database_file r) ≡ files (database_file r)
+          as_before d image r low =
+              let from = stays.images d image in
+              from.2 (database_file r) (no_database r low) ∙ at_files v.content files (AreDatabasesDurable v many) told P.was.databases r low from.0 from.1
+
+          stand_on : (d : Files) → Image x d → (r : ℕ) → r < many → StandUpTo d r (generation rs) (journal r)
+          stand_on d image r low =
+              let from = stays.images d image in
+              stand_same from.0 d r (generation rs) (journal r) (λ h le. from.2 (journal_file h r) (no_older r low h le))
+              (stand_images v files r (generation rs) (journal r) (g.2.read.journals r low) (g.2.stand r low) from.0 from.1)
+
+          kept_many : regions ps ≡ regions rs
+          kept_many = ahead.regions_kept rs (length seq) last P.has.form
+
+          newest : generation ps ≡ suc (generation rs)
+          newest = ahead.newest rs (length seq) last P.has.form
+
+          stand_so : (d : Files) → Image x d → (r : ℕ) → r < length (regions ps) → StandUpTo d r (generation ps) (journal r)
+          stand_so d image r low h o y among =
+              let same : length (regions ps) ≡ many = ap length kept_many in
+              let at = stand_on d image r (omega (arith, low, same)) h o y among in
+              let next = newest in
+              (at.0, omega (arith, at.1, next), at.2)
+
+          blocks : AreOnBlocks files S0 t p.kept.globals
+          blocks = at_files v.content files (IfFound f (λ u es a. StandOn false a u t p.kept.globals)) told P.regions_open.blocks S0 seq g.2.found
+
+          nodes : IsSoundImage files S0 seq → joined p.kept.globals ≡ state (take t seq)
+          nodes = at_files v.content files (IfFound f (λ u es a. IsSoundImage a u es → joined p.kept.globals ≡ state (take t es))) told P.regions_open.nodes S0 seq g.2.found
+
+          cut_so : IfSome v.content (Done n) → (c : Contents) → IsAll c → (e : Files) → Image x e → IsCutOff x ps (first_cut c) p.kept
+          cut_so done c all e there =
+              let q = done_here done (short c (all files here)) e there in
+              let a = q.0 in
+              let was = after done c all in
+              let cut : Records = with_record S0 (next_cut rs (length seq)) in
+              record {
+                journal = journal;
+                seq = seq;
+                sequence = (cuts.image rs last journal seq P.has.form g.2.found.sequence P.has.low f.broken p.lost g.2.broken_is a (read a q.1) c (all a q.1) q.2.0 q.2.1).sequence;
+                none = cuts.none_broken rs last journal seq P.has.form g.2.found.sequence P.has.low f.broken p.lost g.2.broken_is a (read a q.1) c (all a q.1);
+                most = most;
+                reads = λ d image. subst (λ l. AreRead ps (last_of l.items) journal d) (sym P.last_began) (was d image).1;
+                stands = λ d image. (was d image).0.site;
+                indexed = index_cut journal rs (length seq) (generation rs + 1) p.kept.entries (take t seq) (let long = length-take-le t seq most in let low = most in omega (arith, long, low))
+                    (first_index t f.entries p.kept.entries P.entries journal (reigns rs) seq g.2.indexed);
+                stand = stand_so;
+                synced = subst (λ (l : List NamedMode). AreSynced x (length l)) (sym kept_many) (λ d b i j r low. as_before b j r low ∙ sym (as_before d i r low));
+                on = λ d image. on_chosen d S0 cut t t p.kept.globals (ap length kept_many) (patterns_same rs (next_cut rs (length seq)) refl)
+                    (λ r low. (refl, cut_keeps rs t (length seq) (generation rs + 1) (journal r) most))
+                    (on_same files d S0 t p.kept.globals (as_before d image) blocks);
+                globals = nodes (sound files g.2.read.holds c (all files here));
+              }
+
+          cut_at : IfSome v.content (Done n) → (c : Contents) → IsAll c → (e : Files) → Image x e → IsCutOff x is (first_cut c) p.kept
+          cut_at done c all e there = subst (λ (l : List InstanceRecord). IsCutOff x l (first_cut c) p.kept) (sym (own is same ∙ ap (cut_records rs) size)) (cut_so done c all e there)
+
+        pub aside_moments : IfSome v.content (Aside n) → IfSome v.content (λ _. (c : Contents) → IsAll c → Rolling x c)
+        aside_moments run = told_then v.content (Given v f) (λ _. (c : Contents) → IsAll c → Rolling x c) P.was.told
+            (λ files told g. as_told v.content files (λ _. (c : Contents) → IsAll c → Rolling x c) told (aside_in files told g run))
 
         module _ (w : View) where
           abbrev pub Drawing : Type 0
           Drawing = AtEachMoment x w (From (Image x) (MayDraw is t [] (last_of p.kept.last_began.items)))
 
-          pub drawn_moments : IfSome v.content Aside → IfSome v.content Done → IfSome x.content (λ _. Drawing) → IfSome v.content (λ _. (c : Contents) → IsAll c → Rolling w c)
-          drawn_moments first done run =
-              both_weak v.content (λ files. Found files × ((c : Contents) → IsAll c → Rolling x c)) (λ _. (e : Files) × Drawing) (λ _. (c : Contents) → IsAll c → Rolling w c)
-              (both_weak v.content Found (λ _. (c : Contents) → IsAll c → Rolling x c) (λ files. Found files × ((c : Contents) → IsAll c → Rolling x c)) (found done) (aside_moments first) (λ files a b. (a, b)))
-              (told_back (λ _. Drawing) run)
-              (λ files k d c all.
-              then_more v x w (MayStandRolled t (record { contents = c; broken = f.broken })) (From (Image x) (MayDraw is t [] (last_of p.kept.last_began.items))) (k.1 c all) d.1
+          drawn_in : (files : Files) (told : v.content ≡ Some files) (g : Given v f files) → IfSome v.content (Aside n) → IfSome v.content (Done n) → Drawing → (c : Contents) → IsAll c → Rolling w c
+          drawn_in files told g first done run c all =
+              then_more v x w (MayStandRolled t (record { contents = c; broken = f.broken })) (From (Image x) (MayDraw is t [] (last_of p.kept.last_began.items))) (aside_in files told g first c all) run
               (λ b q.
-              let cut = cut_at files k.0 c all q.0 q.1 in
-              let was = standing_of q.0 (bare (first_cut c)) (after files k.0.0 k.0.1 k.0.2 c all q.0 q.1).0 in
+              let cut = cut_at files told g done c all q.0 q.1 in
+              let was = standing_of q.0 (bare (first_cut c)) (after files told g done c all q.0 q.1).0 in
               elim (standing_either_cut is (last_of p.kept.last_began.items) cut.journal cut.seq form_at cut.sequence cut.none t cut.most q.0 (cut.reads q.0 q.1) (bare (first_cut c)) was b q.2) [
                 | inl still ↦ (bare (first_cut c), inr (inl (lost_text t c, omega arith, refl)), still)
                 | inr drawn ↦ (bare (with_starts drawn.0 (cut_to t (first_cut c))), inr (inr (inl (drawn.0, refl))), drawn.1)
-              ]))
+              ])
+
+          pub drawn_moments : IfSome v.content (Aside n) → IfSome v.content (Done n) → IfSome x.content (λ _. Drawing) → IfSome v.content (λ _. (c : Contents) → IsAll c → Rolling w c)
+          drawn_moments first done run = told_then v.content (Given v f) (λ _. (c : Contents) → IsAll c → Rolling w c) P.was.told (λ files told g.
+              let drawn = at_files v.content files (λ _. (e : Files) × Drawing) told (told_back (λ _. Drawing) run) in
+              as_told v.content files (λ _. (c : Contents) → IsAll c → Rolling w c) told (drawn_in files told g first done drawn.1))
 
           module _ (s : OpenSite) (lawful_x : IsLawful x) where
             abbrev pub Opens : Type 0
             Opens = (c : Contents) → IsCutOff x is c p.kept → IsOpen w true (with_starts (length (regions is)) (cut_to t c)) t s
 
+            abbrev pub Opened : Contents → Type 0
+            Opened c = IsOpen w true (rolled_open t f.broken c) (length (rolled_open t f.broken c).sequence) s
+
             -- it is open
-            opened : (files : Files) → Found files → (e : Files) → Image x e → Opens → (c : Contents) → IsAll c → IsOpen w true (rolled_open t f.broken c) (length (rolled_open t f.broken c).sequence) s
-            opened files k e there opens c all =
-                let mine : c ≡ C rs last journal seq P.has.form P.has.sequence files = cuts.own rs last journal seq P.has.form P.has.sequence P.has.low f.broken p.lost P.has.broken_is files k.1.0.holds c (all files k.0) in
+            opened : (files : Files) (told : v.content ≡ Some files) (g : Given v f files) → IfSome v.content (Done n) → (e : Files) → Image x e → Opens → (c : Contents) → IsAll c → Opened c
+            opened files told g done e there opens c all =
+                let mine : c ≡ C rs last g.0 g.1 P.has.form g.2.found.sequence files = cuts.own rs last g.0 g.1 P.has.form g.2.found.sequence P.has.low f.broken p.lost g.2.broken_is files g.2.read.holds c (all files (here files told g)) in
                 let as_many_here : length (regions is) ≡ length (regions c.instance) = ap length as_many ∙ ap (λ (y : Contents). length (regions y.instance)) (sym mine) in
-                let low : t ≤ length c.sequence = (let e : length c.sequence ≡ length seq = ap (λ (y : Contents). length y.sequence) mine in let m = most in omega (arith, e, m)) in
+                let low : t ≤ length c.sequence = (let e : length c.sequence ≡ length g.1 = ap (λ (y : Contents). length y.sequence) mine in let m = most files told g in omega (arith, e, m)) in
                 subst (λ (h : ℕ). IsOpen w true (rolled_open t f.broken c) h s) (sym (length-take-le t c.sequence low))
-                (subst (λ (h : ℕ). IsOpen w true (with_starts h (cut_to t (first_cut c))) t s) as_many_here (opens (first_cut c) (cut_at files k c all e there)))
+                (subst (λ (h : ℕ). IsOpen w true (with_starts h (cut_to t (first_cut c))) t s) as_many_here (opens (first_cut c) (cut_at files told g done c all e there)))
 
-            pub opens_now : IfSome v.content Done → IfSome x.content (λ _. Opens) → IfSome v.content (λ _. (c : Contents) → IsAll c → IsOpen w true (rolled_open t f.broken c) (length (rolled_open t f.broken c).sequence) s)
-            opens_now done opens = both_weak v.content Found (λ _. (e : Files) × (Image x e × Opens)) (λ _. (c : Contents) → IsAll c → IsOpen w true (rolled_open t f.broken c) (length (rolled_open t f.broken c).sequence) s) (found done)
-                (told_back (λ e. Image x e × Opens) (both_weak x.content (λ e. x.since x.moment e) (λ _. Opens) (λ e. Image x e × Opens) lawful_x.as_read opens (λ e a b. (a, b))))
-                (λ files k d c all. opened files k d.0 d.1.0 d.1.1 c all)
+            pub opens_now : IfSome v.content (Done n) → IfSome x.content (λ _. Opens) → IfSome v.content (λ _. (c : Contents) → IsAll c → Opened c)
+            opens_now done opens = told_then v.content (Given v f) (λ _. (c : Contents) → IsAll c → Opened c) P.was.told (λ files told g.
+                let d = at_files v.content files (λ _. (e : Files) × (Image x e × Opens)) told
+                (told_back (λ e. Image x e × Opens) (both_weak x.content (λ e. x.since x.moment e) (λ _. Opens) (λ e. Image x e × Opens) lawful_x.as_read opens (λ e a b. (a, b)))) in
+                as_told v.content files (λ _. (c : Contents) → IsAll c → Opened c) told (opened files told g done d.0 d.1.0 d.1.1))
 
-            module _ (z : View) (open_now : IfSome v.content (λ _. (c : Contents) → IsAll c → IsOpen w true (rolled_open t f.broken c) (length (rolled_open t f.broken c).sequence) s)) where
+            module _ (z : View) (open_now : IfSome v.content (λ _. (c : Contents) → IsAll c → Opened c)) where
               pub closing : IfSome v.content (λ _. (c : Contents) → IsAll c → Rolling w c)
                   → ((c : Contents) → IsOpen w true c (length c.sequence) s → AtEachMoment w z (λ b. (o : Standing) × MayMarkLeft (bare c) o × IsSiteWith b o)) → IfSome v.content (λ _. (c : Contents) → IsAll c → Rolling z c)
-              closing first epoch = both_weak v.content (λ _. (c : Contents) → IsAll c → Rolling w c) (λ _. (c : Contents) → IsAll c → IsOpen w true (rolled_open t f.broken c) (length (rolled_open t f.broken c).sequence) s)
+              closing first epoch = both_weak v.content (λ _. (c : Contents) → IsAll c → Rolling w c) (λ _. (c : Contents) → IsAll c → Opened c)
                   (λ _. (c : Contents) → IsAll c → Rolling z c) first open_now
                   (λ files run is_open c all.
                   then_more v w z (MayStandRolled t (record { contents = c; broken = f.broken })) (λ b. (o : Standing) × MayMarkLeft (bare (rolled_open t f.broken c)) o × IsSiteWith b o) (run c all) (epoch (rolled_open t f.broken c) (is_open c all))
@@ -304,6 +377,6 @@ module _ (v : View) (p : Prepared) (P : IsPrepared v p) where
               pub closed : (after_it : OpenSite) → IsLawful z → ((c : Contents) → IsOpen w true c (length c.sequence) s → IsOpen z true (marked c) (length c.sequence) after_it)
                   → ((c : Contents) → IsOpen w true c (length c.sequence) s → (b : Files) → Image z b → NoneNeeds (length c.sequence) b)
                   → IfSome v.content (λ _. (c : Contents) → IsAll c → StandsFor z (rolled t f.broken c))
-              closed after_it lawful_z done none = weaker_told v.content (λ _. (c : Contents) → IsAll c → IsOpen w true (rolled_open t f.broken c) (length (rolled_open t f.broken c).sequence) s)
+              closed after_it lawful_z done none = weaker_told v.content (λ _. (c : Contents) → IsAll c → Opened c)
                   (λ _. (c : Contents) → IsAll c → StandsFor z (rolled t f.broken c)) open_now
                   (λ files is_open c all. stands_for z (rolled t f.broken c) after_it lawful_z (done (rolled_open t f.broken c) (is_open c all)) (none (rolled_open t f.broken c) (is_open c all)))

@@ -1,7 +1,8 @@
 //! Both CUTs of a rollback: of all entries, and of those that stay.
-ghost use Rattle.std.specs.Prelude.{◌≡◌, ◌≤◌, ◌<◌, ◌^◌, ◌++◌, ◌∷◌, [], ℕ, suc, true, List, length, IfSome, IfOk, OnOk, IsErrOf, IsSome, map, false};
+ghost use Rattle.std.specs.Prelude.{◌≡◌, ◌≤◌, ◌<◌, ◌^◌, [], ℕ, suc, true, List, length, IfSome, IfOk, OnOk, IsErrOf, IsSome, map, false};
 ghost use Rattle.disk_defs.specs.Disk.{Files, Image, From, AtEachMoment, Rose};
 ghost use Rattle.disk_defs.specs.Frames.{OthersStay};
+ghost use Rattle.entry_index.specs.Found.{IsWhole, entry_count};
 ghost use Rattle.instance_file.specs.Instance as instances;
 ghost use Rattle.journal_defs.specs.Instance.{generation, regions};
 ghost use Rattle.journal_defs.specs.Sequence.{Placed};
@@ -87,13 +88,15 @@ pub(crate) fn begin_kept<D: Disk>(
     requires ready { instances.IsReady (D.disk disk.old) instance }
     requires form { MayBeOpened instance.records (last_of kept.last_began.items) }
     requires counted { length kept.last_began.items ≡ length (regions instance.records) }
-    requires few { length kept.entries < 2 ^ 40 }
+    requires few { entry_count kept.entries < 2 ^ 40 }
+    requires whole { IsWhole kept.entries }
+    requires each_place { kept.entries.regions ≡ length (regions instance.records) }
     requires unbegun { IfSome (D.disk disk.old).content (λ _. (f : Files) → Image (D.disk disk.old) f → AreUnbegun (suc (generation instance.records)) (length (regions instance.records)) f) }
     requires layout { (m : ℕ) → HasLayout (cut_records instance.records m) kept.layout }
     requires regions { AreHeld (D.disk disk.old) (length (regions instance.records)) kept.globals }
     ensures ready { IfOk result (λ s. IsReady (D.disk disk.new) s) }
-    ensures open { IfOk result (λ s. IfSome (D.disk disk.old).content (λ _. (c : Contents) → IsCutOff (D.disk disk.old) instance.records c kept → IsOpen (D.disk disk.new) true (with_starts (length (regions instance.records)) (cut_to (length kept.entries) c)) (length kept.entries) s)) }
-    ensures any_moment { IfSome (D.disk disk.old).content (λ _. AtEachMoment (D.disk disk.old) (D.disk disk.new) (From (Image (D.disk disk.old)) (MayDraw instance.records (length kept.entries) [] (last_of kept.last_began.items)))) }
+    ensures open { IfOk result (λ s. IfSome (D.disk disk.old).content (λ _. (c : Contents) → IsCutOff (D.disk disk.old) instance.records c kept → IsOpen (D.disk disk.new) true (with_starts (length (regions instance.records)) (cut_to (entry_count kept.entries) c)) (entry_count kept.entries) s)) }
+    ensures any_moment { IfSome (D.disk disk.old).content (λ _. AtEachMoment (D.disk disk.old) (D.disk disk.new) (From (Image (D.disk disk.old)) (MayDraw instance.records (entry_count kept.entries) [] (last_of kept.last_began.items)))) }
     ensures limit { IsErrOf result RollError.GenLimit → ⊥ }
     ensures without { (region generation : ℕ) → IsErrOf result (RollError.NoBeforeImage region generation) → ⊥ }
     ensures no_forward { (region : ℕ) → IsErrOf result (RollError.NeedForward region) → ⊥ }

@@ -1,15 +1,16 @@
 //! What a rollback leaves, found and read before anything is written.
-ghost use Rattle.std.specs.Prelude.{◌≡◌, ◌⊎◌, ◌≤◌, ◌<◌, ◌+◌, ◌-◌, ◌++◌, ◌∷◌, [], ℕ, suc, List, length, drop, map, min, take, IfOk, IfSome, OnOk, OnErr, IsErrOf};
-ghost use Rattle.std.specs.List.{flat_map};
+ghost use Rattle.std.specs.Prelude.{◌≡◌, ◌⊎◌, ◌≤◌, ◌<◌, ◌+◌, ◌++◌, ℕ, suc, List, length, drop, min, IfOk, IfSome, OnOk, OnErr, IsErrOf};
 ghost use Rattle.disk_defs.specs.Disk.{Files, Image, Reads, AtEachMoment, Rose};
+ghost use Rattle.entry_index.specs.Found.{entry_count};
 ghost use Rattle.global_defs.specs.Entry.{Sequence};
-ghost use Rattle.global_defs.specs.Extract.{entry_text, extract};
-ghost use Rattle.gvn_model.specs.Numbered.{numbered};
+ghost use Rattle.global_defs.specs.Extract.{entries_text, extract};
 ghost use Rattle.journal_defs.specs.Instance as defs;
 ghost use Rattle.journal_defs.specs.Instance.{generation, regions, site_name};
 ghost use Rattle.journal_defs.specs.Numbers.{INSTANCE};
-ghost use Rattle.journal_defs.specs.Sequence.{Records, IsSequence};
+ghost use Rattle.journal_defs.specs.Sequence.{Placed, Records, IsSequence};
 ghost use Rattle.journal_defs.specs.Stands.{IsInstance, AreRecords};
+ghost use Rattle.mupip_recover.specs.Stamps.{AreStarts};
+ghost use Rattle.region_opening.specs.Signs.{AllSay};
 ghost use Rattle.site_defs.specs.Contents.{Contents, Leftover};
 ghost use Rattle.site_defs.specs.Outside.{IsOutsideSite, IsBegunAhead};
 ghost use Rattle.site_defs.specs.OutsideBlocks.{IsOutsideRollback};
@@ -17,19 +18,21 @@ ghost use Rattle.site_defs.specs.Stands.{IsSite, HasLeft};
 ghost use Rattle.site_files.specs.Loading.{AreUnbegun};
 ghost use Rattle.site_store.specs.Needing.{IsFirstWithout, NoneIsWithout};
 ghost use Rattle.site_store.specs.Opening.{EachStands};
-ghost use Rattle.site_store.specs.Standing.{HasFound, WasFound, IsFoundAs, IsOpenFor, found_records, found_entries};
+ghost use Rattle.site_store.specs.Standing.{HasFound, WasFound, IfFound, found_records, found_signs};
 ghost use Rattle.mupip_rollback.specs.Preparing.{IsPrepared, KeepsFirst};
 
 use super::error::{RollError, in_files, in_site};
-use entry_log::EntryLog;
-use gvn_key::{Bytes, NoMemory};
-use gvn_model::Entry;
+use entry_index::EntryIndex;
+use gvn_key::Bytes;
 use instance_file::InstanceLog;
-use jnl_extract::{extract_entry, write_header};
+use jnl_extract::write_header;
+use mupip_recover::starts_of;
 use repl_disk::Disk;
 use site_files::{created_name, see_ahead};
 use site_regions::Regions;
-use site_store::{FoundFiles, Layout, StandingSite, find_files, first_needing, stand};
+use site_store::{
+    FoundFiles, Layout, SiteError, StandingSite, find_files, first_needing, stand, write_entry,
+};
 use std::alloc::Global;
 
 /// What stays of a site in memory.
@@ -39,8 +42,8 @@ pub(crate) struct Kept {
     pub layout: Layout,
     /// The last generation that began in each region, or 0.
     pub last_began: Vec<u32>,
-    /// The entries that stay, by their numbers from 1 on.
-    pub entries: EntryLog,
+    /// Where the parts of the entries that stay stand.
+    pub entries: EntryIndex,
     /// Its regions on their blocks, with what these entries lead to.
     pub globals: Regions,
 }
@@ -92,8 +95,8 @@ fn find<D: Disk>(alloc: Global, disk: &mut D) -> Result<FoundFiles, RollError>
 /// Sees that no region needs forward recovery for so many entries.
 fn check_images(alloc: Global, found: &FoundFiles, target: u64) -> Result<(), RollError>
     requires has { HasFound found.now }
-    ensures none { OnOk result (NoneIsWithout (found_records found.now) target) }
-    ensures first { (region generation : ℕ) → IsErrOf result (RollError.NoBeforeImage region generation) → IsFirstWithout (found_records found.now) target region generation }
+    ensures none { OnOk result ((journal : ℕ → List Placed) → AllSay (found_signs found.now) journal → NoneIsWithout (found_records found.now journal) target) }
+    ensures first { (region generation : ℕ) → IsErrOf result (RollError.NoBeforeImage region generation) → (journal : ℕ → List Placed) → AllSay (found_signs found.now) journal → IsFirstWithout (found_records found.now journal) target region generation }
     ensures causes { OnErr result (((region : ℕ) × (generation : ℕ) × IsErrOf result (RollError.NoBeforeImage region generation)) ⊎ IsErrOf result RollError.NoMemory) }
 {
     match first_needing(alloc, found, target)? {
@@ -105,34 +108,72 @@ fn check_images(alloc: Global, found: &FoundFiles, target: u64) -> Result<(), Ro
     }
 }
 
-/// Adds the extract's lines of entries.
-fn write_entries(entries: &[Entry], out: &mut Bytes) -> Result<(), NoMemory>
-    ensures { OnOk result (out.new ≡ out.old ++ flat_map (λ p. entry_text p.0 p.1) (map numbered entries.now)) }
+/// Adds the extract's lines of the entries behind the first so many, each read from its places. `starts` is what
+/// [`mupip_recover::starts_of`] gives for the reigns.
+fn write_behind<D: Disk>(
+    disk: &mut D,
+    found: &FoundFiles,
+    starts: &[u64],
+    target: u64,
+    out: &mut Bytes,
+) -> Result<(), SiteError>
+    requires has { HasFound found.now }
+    requires starts { AreStarts found.now.read.log.history starts.now }
+    ensures text { OnOk result (IfSome (D.disk disk.old).content (IfFound found.now (λ u seq files. out.new ≡ out.old ++ entries_text (target + 1) (drop target seq)))) }
+    ensures outside { (file offset : ℕ) → IsErrOf result (SiteError.NotAFile file offset) → IfSome (D.disk disk.old).content (IfFound found.now (λ u seq files. ⊥)) }
+    ensures reads { Reads (D.disk disk.old) (D.disk disk.new) }
+    ensures later { (D.disk disk.old).faults ≤ (D.disk disk.new).faults }
+    ensures count { (fault : ℕ) → IsErrOf result (SiteError.Failed fault) → fault ≡ (D.disk disk.new).faults }
+    ensures cause { (fault : ℕ) → IsErrOf result (SiteError.Failed fault) → Rose (D.disk disk.old).faults (D.disk disk.new).faults }
+    ensures causes { OnErr result (((fault : ℕ) × IsErrOf result (SiteError.Failed fault)) ⊎ ((file : ℕ) × (offset : ℕ) × IsErrOf result (SiteError.NotAFile file offset)) ⊎ IsErrOf result SiteError.NoMemory) }
 {
-    for entry in entries {
-        extract_entry(entry, out)?;
+    for done in target..found.entries.len() {
+        write_entry(
+            disk,
+            &found.entries,
+            &found.read.log.history,
+            starts,
+            done + 1,
+            out,
+        )?;
     }
     Ok(())
 }
 
 /// The extract of the entries behind the first so many.
-fn extract_lost(alloc: Global, found: &FoundFiles, target: u64) -> Result<Bytes, NoMemory>
+fn extract_lost<D: Disk>(
+    alloc: Global,
+    disk: &mut D,
+    found: &FoundFiles,
+    target: u64,
+) -> Result<Bytes, RollError>
     requires has { HasFound found.now }
-    requires target { target ≤ length found.now.entries }
-    ensures { IfOk result (λ text. text ≡ extract (site_name found.now.read.log.records) (found_entries found.now) (target + 1)) }
+    requires target { target ≤ entry_count found.now.entries }
+    ensures text { IfOk result (λ text. IfSome (D.disk disk.old).content (IfFound found.now (λ u seq files. text ≡ extract (site_name u.instance) seq (target + 1)))) }
+    ensures outside { (file offset : ℕ) → IsErrOf result (RollError.NotAFile file offset) → IfSome (D.disk disk.old).content (IfFound found.now (λ u seq files. ⊥)) }
+    ensures limit { IsErrOf result RollError.GenLimit → ⊥ }
+    ensures without { (region generation : ℕ) → IsErrOf result (RollError.NoBeforeImage region generation) → ⊥ }
+    ensures no_forward { (region : ℕ) → IsErrOf result (RollError.NeedForward region) → ⊥ }
+    ensures reads { Reads (D.disk disk.old) (D.disk disk.new) }
+    ensures later { (D.disk disk.old).faults ≤ (D.disk disk.new).faults }
+    ensures count { (fault : ℕ) → IsErrOf result (RollError.Failed fault) → fault ≡ (D.disk disk.new).faults }
+    ensures cause { (fault : ℕ) → IsErrOf result (RollError.Failed fault) → Rose (D.disk disk.old).faults (D.disk disk.new).faults }
 {
     let mut text = Bytes::new(alloc);
     let name = created_name(found.read.log.records.as_slice());
     write_header(name, target + 1, &mut text)?;
-    write_entries(&found.entries.as_slice()[target as usize..], &mut text)?;
-    Ok(text)
+    let starts = starts_of(alloc, found.read.log.history.as_slice())?;
+    match write_behind(disk, found, &starts, target, &mut text) {
+        Ok(()) => Ok(text),
+        Err(error) => Err(in_site(error)),
+    }
 }
 
 /// A standing site with its first so many entries, where two generations are to be drawn.
 fn keep_first(standing: StandingSite, target: u64, lost: Bytes) -> Prepared
     requires low { standing.layout.generation < 65535 }
     ensures log { result.log ≡ standing.log }
-    ensures length { result.length ≡ length standing.entries }
+    ensures length { result.length ≡ entry_count standing.entries }
     ensures broken { result.broken ≡ standing.broken }
     ensures lost { result.lost ≡ lost }
     ensures kept { KeepsFirst target standing result.kept }
@@ -171,17 +212,17 @@ fn open_first<D: Disk>(
     target: u64,
 ) -> Result<Prepared, RollError>
     requires has { HasFound found }
-    requires target { target ≤ length found.entries }
-    ensures kept { IfOk result (λ p. length p.kept.entries ≡ target) }
+    requires target { target ≤ entry_count found.entries }
+    ensures kept { IfOk result (λ p. entry_count p.kept.entries ≡ target) }
     ensures prepared { IfOk result (λ p. WasFound (D.disk disk.old) (D.disk disk.old) found → IfSome (D.disk disk.old).content (λ _. (d : Files) → Image (D.disk disk.old) d → AreUnbegun (suc (suc (generation found.read.log.records))) (length (regions found.read.log.records)) d) → IsPrepared (D.disk disk.new) p) }
     ensures records { IfOk result (λ p. p.log.records ≡ found.read.log.records) }
-    ensures length { IfOk result (λ p. p.length ≡ length found.entries) }
+    ensures length { IfOk result (λ p. p.length ≡ entry_count found.entries) }
     ensures broken { IfOk result (λ p. p.broken ≡ found.broken) }
-    ensures place { (file offset : ℕ) → IsErrOf result (RollError.NotAFile file offset) → (to : ℕ) → target ≡ min to (length found.entries) → IfSome (D.disk disk.old).content (λ files. AreRecords files (found_records found) → IsOutsideRollback to files file offset) }
+    ensures place { (file offset : ℕ) → IsErrOf result (RollError.NotAFile file offset) → (to : ℕ) → target ≡ min to (entry_count found.entries) → IfSome (D.disk disk.old).content (IfFound found (λ u seq files. IsOutsideRollback to files file offset)) }
     ensures outside { (file offset : ℕ) → IsErrOf result (RollError.NotAFile file offset) → WasFound (D.disk disk.old) (D.disk disk.old) found → IfSome (D.disk disk.old).content (λ files. (c : Contents) → IsSite files c → ⊥) }
     ensures limit { IsErrOf result RollError.GenLimit → ⊥ }
-    ensures first { (region generation : ℕ) → IsErrOf result (RollError.NoBeforeImage region generation) → IsFirstWithout (found_records found) target region generation }
-    ensures none { OnOk result (NoneIsWithout (found_records found) target) }
+    ensures first { (region generation : ℕ) → IsErrOf result (RollError.NoBeforeImage region generation) → (journal : ℕ → List Placed) → AllSay (found_signs found) journal → IsFirstWithout (found_records found journal) target region generation }
+    ensures none { OnOk result ((journal : ℕ → List Placed) → AllSay (found_signs found) journal → NoneIsWithout (found_records found journal) target) }
     ensures no_forward { (region : ℕ) → IsErrOf result (RollError.NeedForward region) → ⊥ }
     ensures reads { Reads (D.disk disk.old) (D.disk disk.new) }
     ensures later { (D.disk disk.old).faults ≤ (D.disk disk.new).faults }
@@ -189,7 +230,7 @@ fn open_first<D: Disk>(
     ensures cause { (fault : ℕ) → IsErrOf result (RollError.Failed fault) → Rose (D.disk disk.old).faults (D.disk disk.new).faults }
 {
     check_images(alloc, &found, target)?;
-    let lost = extract_lost(alloc, &found, target)?;
+    let lost = extract_lost(alloc, disk, &found, target)?;
     match stand(alloc, disk, found, target) {
         Ok(standing) => Ok(keep_first(standing, target, lost)),
         Err(error) => Err(in_site(error)),
@@ -202,8 +243,8 @@ fn open_first<D: Disk>(
 /// As [`super::rolling::rollback`]'s.
 pub(crate) fn prepare<D: Disk>(alloc: Global, disk: &mut D, to: u64) -> Result<Prepared, RollError>
     ensures prepared { IfOk result (IsPrepared (D.disk disk.new)) }
-    ensures held { IfOk result (λ p. IfSome (D.disk disk.old).content (λ files. (u : Records) × (seq : Sequence) × AreRecords files u × IsSequence u seq × (u.instance ≡ p.log.records) × (length p.kept.entries ≡ min to (length seq)) × NoneIsWithout u (min to (length seq)))) }
-    ensures kept { IfOk result (λ p. length p.kept.entries ≡ min to p.length) }
+    ensures held { IfOk result (λ p. IfSome (D.disk disk.old).content (λ files. (u : Records) × (seq : Sequence) × AreRecords files u × IsSequence u seq × (u.instance ≡ p.log.records) × (entry_count p.kept.entries ≡ min to (length seq)) × NoneIsWithout u (min to (length seq)))) }
+    ensures kept { IfOk result (λ p. entry_count p.kept.entries ≡ min to p.length) }
     ensures site { IfOk result (λ p. IfSome (D.disk disk.old).content (λ files. (c : Contents) → IsSite files c → (p.length ≡ length c.sequence) × (EachStands (D.disk disk.old) → (f : Files) → Image (D.disk disk.new) f → IsSite f c))) }
     ensures left { IfOk result (λ p. IfSome (D.disk disk.old).content (λ files. (c : Contents) (left : Leftover) → IsSite files c → HasLeft files c left → left.broken ≡ p.broken)) }
     ensures limit { IsErrOf result RollError.GenLimit → IfSome (D.disk disk.old).content (λ files. (rs : List defs.InstanceRecord) → IsInstance (files INSTANCE) rs → 65534 ≤ generation rs) }

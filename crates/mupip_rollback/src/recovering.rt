@@ -1,6 +1,6 @@
 //! Recovering a site backward, and forward.
 ghost use Rattle.std.specs.Prelude.{◌≡◌, ◌⊎◌, ◌≤◌, ◌<◌, ℕ, true, List, length, IfOk, IfSome, OnErr, IsErrOf, IsSome};
-ghost use Rattle.disk_defs.specs.Disk.{Image, AtEachMoment, Rose};
+ghost use Rattle.disk_defs.specs.Disk.{AtEachMoment, Rose};
 ghost use Rattle.global_defs.specs.Entry.{Sequence};
 ghost use Rattle.journal_defs.specs.Instance as defs;
 ghost use Rattle.journal_defs.specs.Instance.{generation};
@@ -18,7 +18,7 @@ ghost use Rattle.site_defs.specs.Stands.{IsSite, HasLeft};
 ghost use Rattle.site_store.specs.Needing.{NoneIsWithout, HaveFirstWithout};
 ghost use Rattle.site_store.specs.Opening.{EachStands};
 ghost use Rattle.site_store.specs.Refusing.{IsUnwritten};
-ghost use Rattle.site_store.specs.Site.{IsReady, IsOpen};
+ghost use Rattle.site_store.specs.Site.{IsReady, IsOpen, count_of};
 ghost use Rattle.mupip_rollback.specs.Rolling.{StandsFor, MayBeRecovered, MayBeRecoveredAs, MayBeRecoveredWith, MayBeRecoveredWithAs};
 
 use super::error::{RollError, in_site};
@@ -29,7 +29,7 @@ use std::alloc::Global;
 /// Closes a site that was just opened with an epoch of all entries. Answers how many there are.
 fn close<D: Disk>(alloc: Global, disk: &mut D, mut site: OpenSite) -> Result<u64, RollError>
     requires ready { IsReady (D.disk disk.old) site }
-    ensures length { IfOk result (λ n. n ≡ length site.entries) }
+    ensures length { IfOk result (λ n. n ≡ count_of site) }
     ensures done { IfOk result (λ _. (c : Contents) → IsOpen (D.disk disk.old) true c (length c.sequence) site → StandsFor (D.disk disk.new) (marked c)) }
     ensures any_moment { (c : Contents) → IsOpen (D.disk disk.old) true c (length c.sequence) site → AtEachMoment (D.disk disk.old) (D.disk disk.new) (λ f. (o : Contents) × MayMark c o × IsSite f o) }
     ensures left { (c : Contents) → IsOpen (D.disk disk.old) true c (length c.sequence) site → AtEachMoment (D.disk disk.old) (D.disk disk.new) (λ f. (o : Standing) × MayMarkLeft (bare c) o × IsSiteWith f o) }

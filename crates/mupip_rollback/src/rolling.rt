@@ -1,6 +1,7 @@
 //! Rolling a site back.
-ghost use Rattle.std.specs.Prelude.{◌≡◌, ◌⊎◌, ◌≤◌, ◌<◌, ◌+◌, ℕ, List, length, min, IfOk, IfSome, OnOk, OnErr, IsErrOf, IsSome};
+ghost use Rattle.std.specs.Prelude.{◌≡◌, ◌≤◌, ◌<◌, ◌+◌, ℕ, List, length, min, IfOk, IfSome, OnOk, IsErrOf, IsSome};
 ghost use Rattle.disk_defs.specs.Disk.{Files, Image, AtEachMoment, Rose};
+ghost use Rattle.entry_index.specs.Found.{entry_count};
 ghost use Rattle.global_defs.specs.Entry.{Sequence};
 ghost use Rattle.journal_defs.specs.Instance as defs;
 ghost use Rattle.journal_defs.specs.Instance.{generation};
@@ -36,8 +37,8 @@ pub struct Rolled {
 /// Rolls a site back that was prepared for it: both CUTs, the lost-transaction file between them, and the closing epoch.
 fn roll<D: Disk>(alloc: Global, disk: &mut D, prepared: Prepared) -> Result<(), RollError>
     requires prepared { IsPrepared (D.disk disk.old) prepared }
-    ensures done { OnOk result (IfSome (D.disk disk.old).content (λ _. (c : Contents) → ((f : Files) → Image (D.disk disk.old) f → IsSite f c) → StandsFor (D.disk disk.new) (rolled (length prepared.kept.entries) prepared.broken c))) }
-    ensures any_moment { IfSome (D.disk disk.old).content (λ _. (c : Contents) → ((f : Files) → Image (D.disk disk.old) f → IsSite f c) → AtEachMoment (D.disk disk.old) (D.disk disk.new) (MayStandRolled (length prepared.kept.entries) (record { contents = c; broken = prepared.broken }))) }
+    ensures done { OnOk result (IfSome (D.disk disk.old).content (λ _. (c : Contents) → ((f : Files) → Image (D.disk disk.old) f → IsSite f c) → StandsFor (D.disk disk.new) (rolled (entry_count prepared.kept.entries) prepared.broken c))) }
+    ensures any_moment { IfSome (D.disk disk.old).content (λ _. (c : Contents) → ((f : Files) → Image (D.disk disk.old) f → IsSite f c) → AtEachMoment (D.disk disk.old) (D.disk disk.new) (MayStandRolled (entry_count prepared.kept.entries) (record { contents = c; broken = prepared.broken }))) }
     ensures limit { IsErrOf result RollError.GenLimit → ⊥ }
     ensures without { (region generation : ℕ) → IsErrOf result (RollError.NoBeforeImage region generation) → ⊥ }
     ensures no_forward { (region : ℕ) → IsErrOf result (RollError.NeedForward region) → ⊥ }

@@ -1,7 +1,13 @@
-pub mod Behind
-pub mod Forward
+pub mod Becoming
+pub mod Epochs
 pub mod Homes
+pub mod Imaged
 pub mod Lists
+pub mod Needs
+pub mod Oldest
 pub mod Opened
+pub mod Readings
 pub mod Replays
+pub mod Said
 pub mod Starts
+pub mod Without

@@ -1,19 +1,22 @@
 -- What an opened region is against the files, and what all of them are.
-use Rattle.std.proofs.Common.{◌≡◌, ◌⊎◌, inl, inr, ℕ, zero, suc, ◌*◌, ◌<◌, ◌≤◌, ◌==◌, Bool, true, false, List, [], ◌∷◌, ◌++◌, length, map, take, drop, fold, slice_get, Option, Some, None, IsTrue, refl, sym, ◌∙◌, ap, subst, arith}
-use Rattle.std.specs.Prelude.{IfSome, slice_index_or, unwrap_or, nat_lt, replicate, if◌then◌else◌}
+use Rattle.std.proofs.Common.{◌≡◌, ◌⊎◌, inl, inr, ℕ, zero, suc, ◌*◌, ◌-◌, ◌<◌, ◌≤◌, ◌==◌, Bool, true, false, List, [], ◌∷◌, ◌++◌, length, map, take, drop, fold, slice_get, Option, Some, None, IsTrue, refl, sym, ◌∙◌, ap, subst, arith}
+use Rattle.std.specs.Prelude.{IfSome, slice_index, slice_index_or, unwrap_or, nat_lt, replicate, if◌then◌else◌}
 use Rattle.std.specs.List.{AllByRecursion}
 use Rattle.std.specs.FinMap as globals
 use Rattle.std.proofs.lemmas.Bool.Decides.{nat_tests}
-use Rattle.std.proofs.lemmas.List.{length-replicate, take-take}
+use Rattle.std.proofs.lemmas.Bool.{cases_lt}
+use Rattle.std.proofs.lemmas.List.{length-replicate, take-take, get_or-append_right}
+use Rattle.std.proofs.Math.ListN.{get_or-append}
 use Rattle.std.proofs.Math.Seq.{take-length}
 use Rattle.disk_defs.specs.Disk.{Files}
 use Rattle.global_defs.specs.Key.{Key, key_cmp}
 use Rattle.global_defs.specs.Encoded.{encoded}
-use Rattle.global_defs.specs.Entry.{Globals, Sequence, Update, apply, state}
+use Rattle.global_defs.specs.Entry.{Globals, Reign, Sequence, apply, state}
 use Rattle.global_defs.specs.Fields.{IsTransaction}
 use Rattle.journal_defs.specs.Numbers.{database_file}
 use Rattle.journal_defs.specs.Instance.{InstanceRecord, regions}
 use Rattle.journal_defs.specs.Directory.{Pattern, patterns}
+use Rattle.journal_defs.specs.Surviving.{reigns}
 use Rattle.journal_defs.specs.Sequence.{Placed, Records, IsSequence}
 use Rattle.journal_defs.specs.Epochs.{Blocks, Chosen, beginning, chosen, image_state, block_of, NeedsForward}
 use Rattle.journal_defs.specs.Sound.{AreWhole, Restores, IsSound, region_state}
@@ -22,19 +25,33 @@ use Rattle.journal_defs.specs.Fit.{IsSoundImage}
 use Rattle.block_laws.specs.Nodes.{HaveKeys, updates_of, updates_in}
 use Rattle.journal_laws.proofs.ImageSteps.{all_take}
 use Rattle.block_laws.proofs.Chains as chains
+use Rattle.block_laws.proofs.Formed as formed
 use Rattle.block_laws.proofs.Parts as parts
-use Rattle.region_store.specs.Region.{Standing, HoldsRegion, IsHeld, IsChanged, IsReplayed}
+use Rattle.region_store.specs.Region.{Standing, HoldsRegion, IsHeld, IsReplayed}
 use Rattle.region_store.proofs.Breaks.{nothing_outside}
 use Rattle.region_store.proofs.States as states
-use Rattle.site_defs.specs.OutsideBlocks.{IsOutsideAt, AreOutside, HaveOutsideBlocks}
+use Rattle.site_defs.specs.OutsideBlocks.{IsOutsideAt, AreOutside, HaveOutsideBlocks, gone_back}
 use Rattle.site_regions.specs.Joined.{ArePartsOf, no_region}
-use Rattle.region_opening.specs.Opening.{IsStart, Anew, GoesBack, are_home, IsOwn, IsInside, IsHeldFrom, IsOpened, IsRefused, AreRefused}
-use Rattle.region_opening.proofs.Homes.{stay_home, some_parts}
+use Rattle.jnl_index.specs.declared.placed.PlacedSign.{PlacedSign}
+use Rattle.jnl_file.proofs.Newer.{all_told}
+use Rattle.entry_index.specs.declared.index.EntryIndex.{EntryIndex}
+use Rattle.entry_index.specs.Signs.{signs_of}
+use Rattle.entry_index.specs.Indexes.{AreSigns, Indexes}
+use Rattle.entry_index.specs.Found.{AreFound, entry_count}
+use Rattle.entry_index.proofs.AmongLaws as among
+use Rattle.region_opening.specs.declared.epoch.EpochAt.{EpochAt}
+use Rattle.region_opening.specs.Epochs.{chosen_at}
+use Rattle.region_opening.specs.Signs.{Say, AreTold}
+use Rattle.region_opening.specs.Opening.{IsStart, Anew, GoesBack, are_home, IsOwn, IsBegun, IsInside, IsHeldFrom, IsGoneBack, IsOpened, IsRefused, AreRefused, AreGiven}
+use Rattle.region_opening.specs.Replaying.{AreBecome, IsGivenUpTo}
+use Rattle.region_opening.proofs.Homes.{some_parts}
 use Rattle.region_opening.proofs.Lists.{of_mapped, of_more, mapped_at, at_place}
+use Rattle.region_opening.proofs.Said.{told_say, region_told, none_signed}
 use Rattle.site_regions.proofs.Lists.{there}
 use Rattle.std.proofs.lemmas.Option.{slice_get_within}
 use Rattle.disk_defs.proofs.Told.{weaker_told, both_weak}
 use Rattle.global_defs.specs.Valid.{is_key}
+use Rattle.entry_index.specs.Parts.{InFiles}
 
 -- ---- the empty database
 
@@ -89,50 +106,18 @@ none_behind n (suc t) seq none = absurd (omega (arith, none))
 
 -- ---- one region
 
--- a region from some place of its journals on, with the updates behind it up to the target made
-module _ (instance : List InstanceRecord) (t : ℕ) (seq : Sequence) (journal : List Placed) (r : ℕ) (e : Chosen) (start : IsStart instance t journal e) (within : e.number ≤ t)
-    (forms : AllByRecursion (λ x. IsTransaction x.transaction) seq) where
-  abbrev pub Behind : Standing → Standing → Type 0
-  Behind s m = m.globals ≡ fold apply s.globals (updates_in (patterns instance) r (updates_of (drop e.number (take t seq))))
-
-  -- from the part of the entries up to the place
-  part_made : (s m : Standing) → s.globals ≡ region_state (patterns instance) r (take e.number seq) → Behind s m → m.globals ≡ region_state (patterns instance) r (take t seq)
-  part_made s m part made =
-      let same : region_state (patterns instance) r (take e.number seq) ≡ region_state (patterns instance) r (take e.number (take t seq)) =
-      ap (region_state (patterns instance) r) (sym (take-take e.number t seq within)) in
-      made ∙ ap (λ (g : Globals). fold apply g (updates_in (patterns instance) r (updates_of (drop e.number (take t seq))))) (part ∙ same)
-      ∙ sym (parts.replay (patterns instance) r e.number (take t seq))
-
-  pub own : (s m : Standing) → s.file ≡ database_file r → are_home (patterns instance) r s.globals ≡ true → (e.number ≡ 0 → s.globals ≡ globals.empty)
-      → IsChanged s m → Behind s m → IsOwn (patterns instance) t seq journal r m
-  own s m file home none changed made = record {
-    file = changed.file ∙ file;
-    home = ap (are_home (patterns instance) r) made ∙ stay_home (patterns instance) r s.globals (updates_of (drop e.number (take t seq))) home;
-    none = λ at_zero.
-        made ∙ ap (λ (us : List Update). fold apply s.globals (updates_in (patterns instance) r us)) (none_behind e.number t seq at_zero)
-        ∙ none (omega (arith, within, at_zero));
-    anew = λ no_records.
-        let first : e.number ≡ 0 = begins no_records start in
-        part_made s m (none first ∙ sym (parts.begins (patterns instance) r) ∙ ap (λ (n : ℕ). region_state (patterns instance) r (take n seq)) (sym first)) made;
-  }
-    where
-      begins : journal ≡ [] → IsStart instance t journal e → e.number ≡ 0
-      begins no_records (Anew forward is) = ap (λ (x : Chosen). x.number) is
-      begins no_records (GoesBack back is) = ap (λ (x : Chosen). x.number) is ∙ ap (λ (ps : List Placed). (chosen instance t ps).number) no_records
-
-  held_from : (s : Standing) (files : Files) (c : Chosen) → e ≡ c → HoldsRegion e (files (database_file r)) s → HoldsRegion c (files (database_file r)) s
-  held_from s files c is h = subst (λ (x : Chosen). HoldsRegion x (files (database_file r)) s) is h
-
+-- a region that stands as it did at some place of its journals
+module _ (instance : List InstanceRecord) (t : ℕ) (journal : List Placed) (r : ℕ) (e : Chosen) (start : IsStart instance t journal e) where
   abbrev Below : Files → ℕ → Option (List ℕ)
   Below files = image_state e (block_of (files (database_file r)))
 
-  part_there : (s : Standing) (files : Files) → IsStart instance t journal e → (e.number ≡ 0 → s.globals ≡ globals.empty) → IsReplayed (Below files) [] s.globals
+  part_there : (seq : Sequence) (s : Standing) (files : Files) → AllByRecursion (λ x. IsTransaction x.transaction) seq → IsStart instance t journal e → (e.number ≡ 0 → s.globals ≡ globals.empty) → IsReplayed (Below files) [] s.globals
       → IsSound (region_state (patterns instance) r) instance seq journal (block_of (files (database_file r))) t → s.globals ≡ region_state (patterns instance) r (take e.number seq)
-  part_there s files (Anew forward is) none replayed sound =
+  part_there seq s files forms (Anew forward is) none replayed sound =
       let first : e.number ≡ 0 = ap (λ (x : Chosen). x.number) is in
       none first ∙ sym (parts.begins (patterns instance) r) ∙ ap (λ (n : ℕ). region_state (patterns instance) r (take n seq)) (sym first)
-  part_there s files (GoesBack back is) none replayed (inl forward) = absurd (back forward)
-  part_there s files (GoesBack back is) none replayed (inr sound) =
+  part_there seq s files forms (GoesBack back is) none replayed (inl forward) = absurd (back forward)
+  part_there seq s files forms (GoesBack back is) none replayed (inr sound) =
       states.one (Below files) [] s.globals (region_state (patterns instance) r (take e.number seq)) replayed
       (parts.keys (patterns instance) r (take e.number seq) (all_take (λ x. IsTransaction x.transaction) e.number seq forms))
       (subst (λ (c : Chosen). Restores (image_state c (block_of (files (database_file r)))) (region_state (patterns instance) r (take c.number seq))) (sym is) sound)
@@ -142,23 +127,19 @@ module _ (instance : List InstanceRecord) (t : ℕ) (seq : Sequence) (journal : 
   inside_from s files (GoesBack back is) replayed = inr (λ b out.
       nothing_outside (Below files) b replayed.restored (subst (λ (c : Chosen). IsOutsideAt (image_state c (block_of (files (database_file r)))) b) (sym is) out) replayed.keys replayed.restores)
 
-  holds_from : (m : Standing) (files : Files) → IsStart instance t journal e → HoldsRegion e (files (database_file r)) m → IsHeldFrom instance t journal r m files
-  holds_from m files (Anew forward is) holds = inl forward
-  holds_from m files (GoesBack back is) holds = inr (held_from m files (chosen instance t journal) is holds)
+  holds_from : (s : Standing) (files : Files) → IsStart instance t journal e → HoldsRegion e (files (database_file r)) s → IsHeldFrom instance t journal r s files
+  holds_from s files (Anew forward is) holds = inl forward
+  holds_from s files (GoesBack back is) holds = inr (subst (λ (x : Chosen). HoldsRegion x (files (database_file r)) s) is holds)
 
-  pub opened : (s m : Standing) (files : Files) → s.file ≡ database_file r → (e.number ≡ 0 → s.globals ≡ globals.empty) → IsChanged s m → Behind s m
-      → HoldsRegion e (files (database_file r)) s → IsReplayed (Below files) [] s.globals → IsOpened instance t seq journal r m files
-  opened s m files file none changed made holds replayed =
-      let after : HoldsRegion e (files (database_file r)) m = changed.holds e (files (database_file r)) holds in
-      record {
-        held = (e, subst (λ (f : ℕ). HoldsRegion e (files f) m) (sym (changed.file ∙ file)) after);
-        holds = holds_from m files start after;
-        inside = inside_from s files start replayed;
-        state = λ sound. part_made s m (part_there s files start none replayed sound) made;
-      }
+  goes_back_so : (s : Standing) (files : Files) → (e.number ≡ 0 → s.globals ≡ globals.empty) → HoldsRegion e (files (database_file r)) s → IsReplayed (Below files) [] s.globals → IsGoneBack instance t e.number journal r s files
+  goes_back_so s files none holds replayed = record {
+    holds = holds_from s files start holds;
+    inside = inside_from s files start replayed;
+    state = λ seq forms sound. part_there seq s files forms start none replayed sound;
+  }
 
-  pub refused : (files : Files) (f offset b : ℕ) → f ≡ database_file r → offset ≡ 4096 * b → AreOutside (Below files) (region_state (patterns instance) r (take e.number seq)) b → IsRefused instance t seq journal r f offset files
-  refused files f offset b file place out = by start
+  refused : (seq : Sequence) (files : Files) (f offset b : ℕ) → f ≡ database_file r → offset ≡ 4096 * b → AreOutside (Below files) (region_state (patterns instance) r (take e.number seq)) b → IsRefused instance t seq journal r f offset files
+  refused seq files f offset b file place out = by start
     where
       by : IsStart instance t journal e → IsRefused instance t seq journal r f offset files
       by (Anew forward is) =
@@ -174,6 +155,46 @@ module _ (instance : List InstanceRecord) (t : ℕ) (seq : Sequence) (journal : 
         offset_is = place;
       }
 
+-- the same with the updates up to the target made
+module _ (o : Option Files) (instance : List InstanceRecord) (index : EntryIndex) (from : List ℕ) (t r : ℕ) (s m : Standing) (given : IsGivenUpTo o (reigns instance) index (patterns instance) from t r s m) where
+  pub own : IsBegun (patterns instance) t (slice_index from r) r s → IsOwn (patterns instance) t r m
+  own begun = record {
+    file = given.changed.file ∙ begun.file;
+    home = given.home begun.home;
+    none = λ at_zero. given.same at_zero ∙ begun.none (let within = begun.within in omega (arith, within, at_zero));
+  }
+
+  pub still_held : (files : Files) → IsHeld s files → IsHeld m files
+  still_held files held = (held.0, subst (λ (f : ℕ). HoldsRegion held.0 (files f) m) (sym given.changed.file) (given.changed.holds held.0 (files s.file) held.1))
+
+  -- from the part of the first entries
+  part_made : (seq : Sequence) → slice_index from r ≤ t → s.globals ≡ region_state (patterns instance) r (take (slice_index from r) seq)
+      → m.globals ≡ fold apply s.globals (updates_in (patterns instance) r (updates_of (drop (slice_index from r) (take t seq)))) → m.globals ≡ region_state (patterns instance) r (take t seq)
+  part_made seq within part made =
+      let n = slice_index from r in
+      let same : region_state (patterns instance) r (take n seq) ≡ region_state (patterns instance) r (take n (take t seq)) =
+      ap (region_state (patterns instance) r) (sym (take-take n t seq within)) in
+      made ∙ ap (λ (g : Globals). fold apply g (updates_in (patterns instance) r (updates_of (drop n (take t seq))))) (part ∙ same)
+      ∙ sym (parts.replay (patterns instance) r n (take t seq))
+
+  still_holds : (files : Files) (journal : List Placed) → IsHeldFrom instance t journal r s files → IsHeldFrom instance t journal r m files
+  still_holds files journal (inl forward) = inl forward
+  still_holds files journal (inr holds) = inr (given.changed.holds (chosen instance t journal) (files (database_file r)) holds)
+
+  pub opened : (files : Files) (journal : List Placed) (seq : Sequence) → AllByRecursion (λ x. IsTransaction x.transaction) seq → slice_index from r ≤ t → IsGoneBack instance t (slice_index from r) journal r s files
+      → m.globals ≡ fold apply s.globals (updates_in (patterns instance) r (updates_of (drop (slice_index from r) (take t seq)))) → IsOpened instance t seq journal r m files
+  opened files journal seq forms within back made = record {
+    holds = still_holds files journal back.holds;
+    inside = back.inside;
+    state = λ sound. part_made seq within (back.state seq forms sound) made;
+  }
+
+  -- one that began empty
+  pub anew : slice_index from r ≡ 0 → s.globals ≡ globals.empty → (seq : Sequence) → m.globals ≡ fold apply s.globals (updates_in (patterns instance) r (updates_of (drop (slice_index from r) (take t seq))))
+      → m.globals ≡ region_state (patterns instance) r (take t seq)
+  anew first empty seq made =
+      part_made seq (omega (arith, first)) (empty ∙ sym (parts.begins (patterns instance) r) ∙ ap (λ (n : ℕ). region_state (patterns instance) r (take n seq)) (sym first)) made
+
 -- ---- all regions
 
 are_parts : (ps : List Pattern) (rs : List Standing) (seq : Sequence) → ((r : ℕ) (s : Standing) → slice_get rs r ≡ Some s → s.globals ≡ region_state ps r seq) → ArePartsOf ps rs seq
@@ -188,8 +209,8 @@ have_parts ps rs homes =
     each : (i : ℕ) (g : Globals) → slice_get (map (λ (t : Standing). t.globals) rs) i ≡ Some g → are_home ps i g ≡ true
     each i g is = let x = of_mapped (λ (t : Standing). t.globals) rs i g is in subst (λ (h : Globals). are_home ps i h ≡ true) x.2 (homes i x.0 x.1)
 
-pub empty_parts : (ps : List Pattern) (rs : List Standing) (t : ℕ) (seq : Sequence) (journal : ℕ → List Placed) → t ≡ 0 → ((r : ℕ) (s : Standing) → slice_get rs r ≡ Some s → IsOwn ps t seq (journal r) r s) → ArePartsOf ps rs []
-empty_parts ps rs t seq journal at_zero own = are_parts ps rs [] (λ r s here. (own r s here).none at_zero ∙ sym (parts.begins ps r))
+pub empty_parts : (ps : List Pattern) (rs : List Standing) (t : ℕ) → t ≡ 0 → ((r : ℕ) (s : Standing) → slice_get rs r ≡ Some s → IsOwn ps t r s) → ArePartsOf ps rs []
+empty_parts ps rs t at_zero own = are_parts ps rs [] (λ r s here. (own r s here).none at_zero ∙ sym (parts.begins ps r))
 
 module _ (files : Files) (records : Records) (t : ℕ) (seq : Sequence) where
   pub sound_parts : (rs : List Standing) → length rs ≡ length (regions records.instance) → ((r : ℕ) (s : Standing) → slice_get rs r ≡ Some s → IsOpened records.instance t seq (records.journal r) r s files)
@@ -236,150 +257,283 @@ module _ (files : Files) (records : Records) (t : ℕ) (seq : Sequence) where
 
 -- ---- the regions as a disk tells them
 
-always : (o : Option Files) (P : Files → Type 0) → ((f : Files) → P f) → IfSome o P
-always None P all = tt
-always (Some f) P all = all f
-
-module _ (o : Option Files) (instance : List InstanceRecord) (t : ℕ) (seq : Sequence) (journal : ℕ → List Placed) where
-  -- what is told of the regions that were opened
-  abbrev pub AreOpened : List Standing → Files → Type 0
-  AreOpened rs files = (r : ℕ) (s : Standing) → slice_get rs r ≡ Some s → IsOpened instance t seq (journal r) r s files
-
-  pub none_opened : IfSome o (AreOpened [])
-  none_opened = always o (AreOpened []) (λ files r s here. let gone : None ≡ Some s = here in cc)
-
-  pub one_more_opened : (rs : List Standing) (s : Standing) (n : ℕ) → length rs ≡ n → IfSome o (AreOpened rs) → IfSome o (IsOpened instance t seq (journal n) n s) → IfSome o (AreOpened (rs ++ s ∷ []))
-  one_more_opened rs s n long told this = both_weak o (AreOpened rs) (IsOpened instance t seq (journal n) n s) (AreOpened (rs ++ s ∷ [])) told this (λ files are is r m here. elim (of_more rs s r m here) [
-    | inl low ↦ are r m low
-    | inr last ↦ subst (λ (q : ℕ). IsOpened instance t seq (journal q) q m files) (sym (last.0 ∙ long)) (subst (λ (x : Standing). IsOpened instance t seq (journal n) n x files) (sym last.1) is)
-  ])
-
-  pub own_more : (ps : List Pattern) (rs : List Standing) (s : Standing) (n : ℕ) → length rs ≡ n → ((r : ℕ) (m : Standing) → slice_get rs r ≡ Some m → IsOwn ps t seq (journal r) r m) → IsOwn ps t seq (journal n) n s
-      → (r : ℕ) (m : Standing) → slice_get (rs ++ s ∷ []) r ≡ Some m → IsOwn ps t seq (journal r) r m
-  own_more ps rs s n long are is r m here = elim (of_more rs s r m here) [
-    | inl low ↦ are r m low
-    | inr last ↦ subst (λ (q : ℕ). IsOwn ps t seq (journal q) q m) (sym (last.0 ∙ long)) (subst (λ (x : Standing). IsOwn ps t seq (journal n) n x) (sym last.1) is)
-  ]
-
-  pub first_refused : (rs : List Standing) (n count f offset : ℕ) → length rs ≡ n → n < count → IfSome o (AreOpened rs) → IfSome o (IsRefused instance t seq (journal n) n f offset) → IfSome o (AreRefused instance t seq journal count f offset)
-  first_refused rs n count f offset long low told this = both_weak o (AreOpened rs) (IsRefused instance t seq (journal n) n f offset) (AreRefused instance t seq journal count f offset) told this (λ files are is. record {
-    region = n;
-    below = low;
-    earlier = λ q less. let s = there rs q (omega (arith, less, long)) in (are q s.0 s.1).inside;
-    refused = is;
-  })
+-- what a disk tells of each of some things
+each_told : {I : Type 0} (o : Option Files) (P : I → Files → Type 0) → ((i : I) → IfSome o (P i)) → IfSome o (λ files. (i : I) → P i files)
+each_told None P all = tt
+each_told (Some files) P all = all
 
 -- what stands of one region, as the disk tells it
-module _ (o : Option Files) (ps : List Pattern) (e : Chosen) (file r : ℕ) (is : file ≡ database_file r) where
-  abbrev At : ℕ → Files → ℕ → Option (List ℕ)
-  At f files = image_state e (block_of (files f))
+module _ (o : Option Files) (ps : List Pattern) (n : ℕ) (start : EpochAt) (signs : List PlacedSign) where
+  abbrev At : List Placed → Files → ℕ → Option (List ℕ)
+  At journal files = image_state (chosen_at start journal) (block_of (files (database_file n)))
 
   -- the place of what is outside
-  abbrev pub IsTold : ℕ → ℕ → Files → Type 0
-  IsTold f offset files = (seq : Sequence) → (f ≡ database_file r) × (b : ℕ) × (offset ≡ 4096 * b) × AreOutside (At (database_file r) files) (region_state ps r (take e.number seq)) b
+  abbrev IsTold : ℕ → ℕ → Files → Type 0
+  IsTold f offset files = (journal : List Placed) → AreTold files n signs journal → (seq : Sequence) → (f ≡ database_file n) × (b : ℕ) × (offset ≡ 4096 * b) × AreOutside (At journal files) (region_state ps n (take start.number seq)) b
 
-  pub told_outside : (f offset : ℕ) → IfSome o (λ files. (f ≡ file) × (b : ℕ) × (offset ≡ 4096 * b) × IsOutsideAt (At file files) b) → IfSome o (IsTold f offset)
-  told_outside f offset told = weaker_told o (λ files. (f ≡ file) × (b : ℕ) × (offset ≡ 4096 * b) × IsOutsideAt (At file files) b) (IsTold f offset) told (λ files h seq.
-      (h.0 ∙ is, h.1, h.2, inl (subst (λ (x : ℕ). IsOutsideAt (At x files) h.1) is h.3)))
+  pub told_outside : (f offset : ℕ) → IfSome o (λ files. (journal : List Placed) → AreTold files n signs journal → (f ≡ database_file n) × (b : ℕ) × (offset ≡ 4096 * b) × IsOutsideAt (At journal files) b) → IfSome o (IsTold f offset)
+  told_outside f offset told =
+      weaker_told o (λ files. (journal : List Placed) → AreTold files n signs journal → (f ≡ database_file n) × (b : ℕ) × (offset ≡ 4096 * b) × IsOutsideAt (At journal files) b) (IsTold f offset) told (λ files h journal are seq.
+      let here = h journal are in (here.0, here.1, here.2, inl here.3))
 
-  pub told_others : (f offset : ℕ) (g : Globals) → f ≡ file → offset ≡ 0 → IfSome o (λ files. IsReplayed (At file files) [] g) → ((seq : Sequence) → g ≡ region_state ps r (take e.number seq) → ⊥) → IfSome o (IsTold f offset)
-  told_others f offset g at first told others = weaker_told o (λ files. IsReplayed (At file files) [] g) (IsTold f offset) told (λ files replayed seq.
-      let there = subst (λ (x : ℕ). IsReplayed (At x files) [] g) is replayed in
-      (at ∙ is, 0, first, inr (refl, record { there = there.restored; keys = there.keys; restores = there.restores; others = λ same. others seq (there.made ∙ same) })))
+  pub told_others : (f offset : ℕ) (g : Globals) → f ≡ database_file n → offset ≡ 0 → IfSome o (λ files. (journal : List Placed) → AreTold files n signs journal → IsReplayed (At journal files) [] g)
+      → ((seq : Sequence) → g ≡ region_state ps n (take start.number seq) → ⊥) → IfSome o (IsTold f offset)
+  told_others f offset g at first told others =
+      weaker_told o (λ files. (journal : List Placed) → AreTold files n signs journal → IsReplayed (At journal files) [] g) (IsTold f offset) told (λ files h journal are seq.
+      let there = h journal are in
+      (at, 0, first, inr (refl, record { there = there.restored; keys = there.keys; restores = there.restores; others = λ same. others seq (there.made ∙ same) })))
 
-  pub told_holds : (s : Standing) → IfSome o (λ files. HoldsRegion e (files file) s) → IfSome o (λ files. HoldsRegion e (files (database_file r)) s)
-  told_holds s told = weaker_told o (λ files. HoldsRegion e (files file) s) (λ files. HoldsRegion e (files (database_file r)) s) told (λ files h. subst (λ (x : ℕ). HoldsRegion e (files x) s) is h)
+-- a region that was opened from its start
+module _ (o : Option Files) (instance : List InstanceRecord) (t n : ℕ) (start : EpochAt) (signs : List PlacedSign) (starts : (journal : List Placed) → Say signs journal → IsStart instance t journal (chosen_at start journal)) (ps : List Pattern) (are : ps ≡ patterns instance) where
+  pub region_begun : (s : Standing) → s.file ≡ database_file n → are_home ps n s.globals ≡ true → start.number ≤ t → (start.number ≡ 0 → s.globals ≡ globals.empty) → IsBegun (patterns instance) t start.number n s
+  region_begun s file home within none = record { file = file; home = subst (λ (qs : List Pattern). are_home qs n s.globals ≡ true) are home; within = within; none = none }
 
-  pub told_globals : (g : Globals) → IfSome o (λ files. IsReplayed (At file files) [] g) → IfSome o (λ files. IsReplayed (At (database_file r) files) [] g)
-  told_globals g told = weaker_told o (λ files. IsReplayed (At file files) [] g) (λ files. IsReplayed (At (database_file r) files) [] g) told (λ files h. subst (λ (x : ℕ). IsReplayed (At x files) [] g) is h)
-
--- a region that was opened from its start, with the updates up to the target
-module _ (o : Option Files) (instance : List InstanceRecord) (t : ℕ) (seq : Sequence) (journal : List Placed) (r : ℕ) (e : Chosen) (start : IsStart instance t journal e) (within : e.number ≤ t)
-    (forms : AllByRecursion (λ x. IsTransaction x.transaction) seq) (ps : List Pattern) (are : ps ≡ patterns instance) where
-  -- the updates behind it
-  abbrev pub Replayed : Standing → Standing → Type 0
-  Replayed s m = m.globals ≡ fold apply s.globals (updates_in ps r (updates_of (drop e.number (take t seq))))
-
-  made_so : (s m : Standing) → Replayed s m → Behind instance t seq journal r e start within forms s m
-  made_so s m made = subst (λ (qs : List Pattern). m.globals ≡ fold apply s.globals (updates_in qs r (updates_of (drop e.number (take t seq))))) are made
-
-  pub region_own : (s m : Standing) → s.file ≡ database_file r → are_home ps r s.globals ≡ true → (e.number ≡ 0 → s.globals ≡ globals.empty)
-      → IsChanged s m → Replayed s m → IsOwn (patterns instance) t seq journal r m
-  region_own s m file home none changed made =
-      own instance t seq journal r e start within forms s m file (subst (λ (qs : List Pattern). are_home qs r s.globals ≡ true) are home) none changed (made_so s m made)
-
-  pub region_opened : (s m : Standing) → s.file ≡ database_file r → (e.number ≡ 0 → s.globals ≡ globals.empty) → IsChanged s m → Replayed s m
-      → IfSome o (λ files. HoldsRegion e (files (database_file r)) s) → IfSome o (λ files. IsReplayed (image_state e (block_of (files (database_file r)))) [] s.globals) → IfSome o (IsOpened instance t seq journal r m)
-  region_opened s m file none changed made holds replayed =
-      both_weak o (λ files. HoldsRegion e (files (database_file r)) s) (λ files. IsReplayed (image_state e (block_of (files (database_file r)))) [] s.globals) (IsOpened instance t seq journal r m) holds replayed
-      (λ files h k. opened instance t seq journal r e start within forms s m files file none changed (made_so s m made) h k)
+  pub region_gone_back : (s : Standing) → (start.number ≡ 0 → s.globals ≡ globals.empty) → IfSome o (λ files. (journal : List Placed) → AreTold files n signs journal → HoldsRegion (chosen_at start journal) (files (database_file n)) s)
+      → IfSome o (λ files. (journal : List Placed) → AreTold files n signs journal → IsReplayed (image_state (chosen_at start journal) (block_of (files (database_file n)))) [] s.globals)
+      → IfSome o (λ files. (journal : List Placed) → AreTold files n signs journal → IsGoneBack instance t start.number journal n s files)
+  region_gone_back s none holds replayed = both_weak o (λ files. (journal : List Placed) → AreTold files n signs journal → HoldsRegion (chosen_at start journal) (files (database_file n)) s)
+      (λ files. (journal : List Placed) → AreTold files n signs journal → IsReplayed (image_state (chosen_at start journal) (block_of (files (database_file n)))) [] s.globals)
+      (λ files. (journal : List Placed) → AreTold files n signs journal → IsGoneBack instance t start.number journal n s files) holds replayed
+      (λ files h k journal told. goes_back_so instance t journal n (chosen_at start journal) (starts journal (told_say files n signs journal told)) s files none (h journal told) (k journal told))
 
   pub region_refused : (f offset : ℕ)
-      → IfSome o (λ files. (all : Sequence) → (f ≡ database_file r) × (b : ℕ) × (offset ≡ 4096 * b) × AreOutside (image_state e (block_of (files (database_file r)))) (region_state ps r (take e.number all)) b)
-      → IfSome o (IsRefused instance t seq journal r f offset)
+      → IfSome o (λ files. (journal : List Placed) → AreTold files n signs journal → (seq : Sequence) → (f ≡ database_file n) × (b : ℕ) × (offset ≡ 4096 * b) × AreOutside (image_state (chosen_at start journal) (block_of (files (database_file n)))) (region_state ps n (take start.number seq)) b)
+      → IfSome o (λ files. (journal : List Placed) → AreTold files n signs journal → (seq : Sequence) → IsRefused instance t seq journal n f offset files)
   region_refused f offset told =
-      weaker_told o (λ files. (all : Sequence) → (f ≡ database_file r) × (b : ℕ) × (offset ≡ 4096 * b) × AreOutside (image_state e (block_of (files (database_file r)))) (region_state ps r (take e.number all)) b)
-      (IsRefused instance t seq journal r f offset) told (λ files h.
-      let at = h seq in
-      refused instance t seq journal r e start within forms files f offset at.1 at.0 at.2
-      (subst (λ (qs : List Pattern). AreOutside (image_state e (block_of (files (database_file r)))) (region_state qs r (take e.number seq)) at.1) are at.3))
+      weaker_told o (λ files. (journal : List Placed) → AreTold files n signs journal → (seq : Sequence) → (f ≡ database_file n) × (b : ℕ) × (offset ≡ 4096 * b) × AreOutside (image_state (chosen_at start journal) (block_of (files (database_file n)))) (region_state ps n (take start.number seq)) b)
+      (λ files. (journal : List Placed) → AreTold files n signs journal → (seq : Sequence) → IsRefused instance t seq journal n f offset files) told (λ files h journal are_told seq.
+      let at = h journal are_told seq in
+      refused instance t journal n (chosen_at start journal) (starts journal (told_say files n signs journal are_told)) seq files f offset at.1 at.0 at.2
+      (subst (λ (qs : List Pattern). AreOutside (image_state (chosen_at start journal) (block_of (files (database_file n)))) (region_state qs n (take start.number seq)) at.1) are at.3))
 
--- regions that were opened with no record of any journal have their parts of the state of all entries
-pub anew_parts : (ps : List Pattern) (rs : List Standing) (t : ℕ) (seq : Sequence) (journal : ℕ → List Placed) → t ≡ length seq → ((r : ℕ) → journal r ≡ []) → ((r : ℕ) (s : Standing) → slice_get rs r ≡ Some s → IsOwn ps t seq (journal r) r s) → ArePartsOf ps rs seq
-anew_parts ps rs t seq journal all none own =
-    are_parts ps rs seq (λ r s here. (own r s here).anew (none r) ∙ ap (λ (n : ℕ). region_state ps r (take n seq)) all ∙ ap (region_state ps r) (take-length seq))
+-- a list of regions, and of numbers, with one more
+each_more : (P : ℕ → ℕ → Standing → Type 0) (rs : List Standing) (ns : List ℕ) (s : Standing) (x n : ℕ) → length rs ≡ n → length ns ≡ n → ((r : ℕ) (m : Standing) → slice_get rs r ≡ Some m → P r (slice_index ns r) m) → P n x s
+    → (r : ℕ) (m : Standing) → slice_get (rs ++ s ∷ []) r ≡ Some m → P r (slice_index (ns ++ x ∷ []) r) m
+each_more P rs ns s x n long many each this r m here = elim (of_more rs s r m here) [
+  | inl low ↦
+      let inside : r < length ns = let within = slice_get_within rs r m low in omega (arith, within, long, many) in
+      subst (λ (k : ℕ). P r k m) (sym (get_or-append ns (x ∷ []) 0 r inside)) (each r m low)
+  | inr last ↦
+      let at : r ≡ n = last.0 ∙ long in
+      let first : r - n ≡ 0 = omega (arith, at) in
+      let number : slice_index (ns ++ x ∷ []) r ≡ x = get_or-append_right ns (x ∷ []) n r 0 many (omega (arith, at)) ∙ ap (λ (k : ℕ). slice_index (x ∷ []) k) first in
+      subst (λ (k : ℕ). P r k m) (sym number) (subst (λ (q : ℕ). P q x m) (sym at) (subst (λ (y : Standing). P n x y) (sym last.1) this))
+]
 
--- and none of them is refused
-pub anew_refused : (instance : List InstanceRecord) (t : ℕ) (seq : Sequence) (journal : ℕ → List Placed) (n f offset : ℕ) (files : Files) → ((r : ℕ) → journal r ≡ []) → AreRefused instance t seq journal n f offset files → ⊥
-anew_refused instance t seq journal n f offset files none all =
-    let refused : IsRefused instance t seq [] all.region f offset files = subst (λ (ps : List Placed). IsRefused instance t seq ps all.region f offset files) (none all.region) all.refused in
-    let blocks = block_of (files (database_file all.region)) in
-    not_outside (image_state (beginning []) blocks) nothing refused.block no_keys (begins_empty blocks)
-    (subst (λ (g : Globals). AreOutside (image_state (beginning []) blocks) g refused.block) (parts.begins (patterns instance) all.region) refused.outside)
+-- regions that were opened from their starts, one after the other
+module _ (o : Option Files) (instance : List InstanceRecord) (t : ℕ) (signs : List (List PlacedSign)) where
+  -- what is told of all
+  abbrev pub AreGoneBack : List Standing → List ℕ → Files → Type 0
+  AreGoneBack rs from files = (journal : ℕ → List Placed) → AreSigns files signs journal → (r : ℕ) (s : Standing) → slice_get rs r ≡ Some s → IsGoneBack instance t (slice_index from r) (journal r) r s files
+
+  abbrev pub AreHeld : List Standing → Files → Type 0
+  AreHeld rs files = (r : ℕ) (s : Standing) → slice_get rs r ≡ Some s → IsHeld s files
+
+  pub none_back : IfSome o (AreGoneBack [] [])
+  none_back = all_told o (AreGoneBack [] []) (λ files journal are r s here. let gone : None ≡ Some s = here in cc)
+
+  pub none_held : IfSome o (AreHeld [])
+  none_held = all_told o (AreHeld []) (λ files r s here. let gone : None ≡ Some s = here in cc)
+
+  pub one_more_back : (rs : List Standing) (from : List ℕ) (s : Standing) (x n : ℕ) → length rs ≡ n → length from ≡ n → IfSome o (AreGoneBack rs from)
+      → IfSome o (λ files. (journal : List Placed) → AreTold files n (signs_of signs n) journal → IsGoneBack instance t x journal n s files) → IfSome o (AreGoneBack (rs ++ s ∷ []) (from ++ x ∷ []))
+  one_more_back rs from s x n long many told this =
+      both_weak o (AreGoneBack rs from) (λ files. (journal : List Placed) → AreTold files n (signs_of signs n) journal → IsGoneBack instance t x journal n s files) (AreGoneBack (rs ++ s ∷ []) (from ++ x ∷ [])) told this
+      (λ files all is journal are. each_more (λ r k m. IsGoneBack instance t k (journal r) r m files) rs from s x n long many (all journal are) (is (journal n) (region_told files signs journal n are)))
+
+  pub one_more_held : (rs : List Standing) (s : Standing) → IfSome o (AreHeld rs) → IfSome o (IsHeld s) → IfSome o (AreHeld (rs ++ s ∷ []))
+  one_more_held rs s told this = both_weak o (AreHeld rs) (IsHeld s) (AreHeld (rs ++ s ∷ [])) told this (λ files all is r m here. elim (of_more rs s r m here) [
+    | inl low ↦ all r m low
+    | inr last ↦ subst (λ (x : Standing). IsHeld x files) (sym last.1) is
+  ])
+
+  pub one_more_begun : (ps : List Pattern) (rs : List Standing) (from : List ℕ) (s : Standing) (x n : ℕ) → length rs ≡ n → length from ≡ n → ((r : ℕ) (m : Standing) → slice_get rs r ≡ Some m → IsBegun ps t (slice_index from r) r m) → IsBegun ps t x n s
+      → (r : ℕ) (m : Standing) → slice_get (rs ++ s ∷ []) r ≡ Some m → IsBegun ps t (slice_index (from ++ x ∷ []) r) r m
+  one_more_begun ps rs from s x n long many all this = each_more (λ r k m. IsBegun ps t k r m) rs from s x n long many all this
+
+  pub one_more_first : (from : List ℕ) (x n : ℕ) → length from ≡ n → ((r : ℕ) → signs_of signs r ≡ [] → slice_index from r ≡ 0) → (signs_of signs n ≡ [] → x ≡ 0) → (r : ℕ) → signs_of signs r ≡ [] → slice_index (from ++ x ∷ []) r ≡ 0
+  one_more_first from x n many all this r none = elim (cases_lt r n) [
+    | inl low ↦ get_or-append from (x ∷ []) 0 r (omega (arith, low, many)) ∙ all r none
+    | inr past ↦ get_or-append_right from (x ∷ []) n r 0 many past ∙ last (r - n) refl past
+  ]
+    where
+      last : (k : ℕ) → r - n ≡ k → n ≤ r → slice_index (x ∷ []) k ≡ 0
+      last zero is past = let same : r ≡ n = omega (arith, is, past) in this (subst (λ (q : ℕ). signs_of signs q ≡ []) same none)
+      last (suc k) is past = refl
+
+  pub first_refused : (rs : List Standing) (from : List ℕ) (n count f offset : ℕ) → length rs ≡ n → n < count → IfSome o (AreGoneBack rs from)
+      → IfSome o (λ files. (journal : List Placed) → AreTold files n (signs_of signs n) journal → (seq : Sequence) → IsRefused instance t seq journal n f offset files)
+      → IfSome o (λ files. (journal : ℕ → List Placed) → AreSigns files signs journal → (seq : Sequence) → AreRefused instance t seq journal count f offset files)
+  first_refused rs from n count f offset long low told this =
+      both_weak o (AreGoneBack rs from) (λ files. (journal : List Placed) → AreTold files n (signs_of signs n) journal → (seq : Sequence) → IsRefused instance t seq journal n f offset files)
+      (λ files. (journal : ℕ → List Placed) → AreSigns files signs journal → (seq : Sequence) → AreRefused instance t seq journal count f offset files) told this (λ files all is journal are seq. record {
+        region = n;
+        below = low;
+        earlier = λ q less. let s = there rs q (omega (arith, less, long)) in (all journal are q s.0 s.1).inside;
+        refused = is (journal n) (region_told files signs journal n are) seq;
+      })
+
+-- how many entries it has
+pub count_is : (files : Files) (rs : List Reign) (index : EntryIndex) (seq : Sequence) → 1 ≤ index.regions → Indexes (InFiles files) rs index seq → entry_count index ≡ length seq
+count_is files rs index seq some is = among.counted index (length seq) some is.rows
+
+-- all regions, with the updates up to the target made
+module _ (o : Option Files) (instance : List InstanceRecord) (signs : List (List PlacedSign)) (index : EntryIndex) (t : ℕ) (from : List ℕ) (rs ms : List Standing)
+    (become : AreBecome (IsGivenUpTo o (reigns instance) index (patterns instance) from t) (length rs) rs ms) where
+  -- the region that one was before
+  before : (r : ℕ) (m : Standing) → slice_get ms r ≡ Some m → (s : Standing) × (slice_get rs r ≡ Some s) × IsGivenUpTo o (reigns instance) index (patterns instance) from t r s m
+  before r m here =
+      let many = become.count in
+      let low : r < length rs = let inside = slice_get_within ms r m here in omega (arith, inside, many) in
+      let s = there rs r low in
+      (s.0, s.1, become.each r s.0 m low s.1 here)
+
+  pub all_own : ((r : ℕ) (s : Standing) → slice_get rs r ≡ Some s → IsBegun (patterns instance) t (slice_index from r) r s) → (r : ℕ) (m : Standing) → slice_get ms r ≡ Some m → IsOwn (patterns instance) t r m
+  all_own begun r m here = let b = before r m here in own o instance index from t r b.0 m b.2 (begun r b.0 b.1)
+
+  pub all_held : IfSome o (AreHeld o instance t signs rs) → IfSome o (AreHeld o instance t signs ms)
+  all_held told = weaker_told o (AreHeld o instance t signs rs) (AreHeld o instance t signs ms) told (λ files held r m here.
+      let b = before r m here in still_held o instance index from t r b.0 m b.2 files (held r b.0 b.1))
+
+  pub all_anew : 1 ≤ index.regions → t ≤ entry_count index → ((r : ℕ) (s : Standing) → slice_get rs r ≡ Some s → IsBegun (patterns instance) t (slice_index from r) r s) → ((r : ℕ) → signs_of signs r ≡ [] → slice_index from r ≡ 0)
+      → (r : ℕ) (m : Standing) → slice_get ms r ≡ Some m → signs_of signs r ≡ [] → IfSome o (λ files. (seq : Sequence) → Indexes (InFiles files) (reigns instance) index seq → m.globals ≡ region_state (patterns instance) r (take t seq))
+  all_anew some within begun first r m here none =
+      let b = before r m here in
+      let zero = first r none in
+      weaker_told o (λ files. (seq : Sequence) → Indexes (InFiles files) (reigns instance) index seq → t ≤ length seq → m.globals ≡ fold apply b.0.globals (updates_in (patterns instance) r (updates_of (drop (slice_index from r) (take t seq)))))
+      (λ files. (seq : Sequence) → Indexes (InFiles files) (reigns instance) index seq → m.globals ≡ region_state (patterns instance) r (take t seq)) b.2.made (λ files made seq indexed.
+      let many = count_is files (reigns instance) index seq some indexed in
+      anew o instance index from t r b.0 m b.2 zero ((begun r b.0 b.1).none zero) seq (made seq indexed (omega (arith, within, many))))
+
+  -- what is told of all
+  abbrev pub AreOpened : List Standing → Files → Type 0
+  AreOpened xs files = (journal : ℕ → List Placed) (seq : Sequence) → AreGiven files instance signs index journal seq → (r : ℕ) (s : Standing) → slice_get xs r ≡ Some s → IsOpened instance t seq (journal r) r s files
+
+  made_all : IfSome o (λ files. (i : (r : ℕ) × (m : Standing) × (slice_get ms r ≡ Some m)) (seq : Sequence) → Indexes (InFiles files) (reigns instance) index seq → t ≤ length seq
+      → i.1.globals ≡ fold apply (before i.0 i.1 i.2).0.globals (updates_in (patterns instance) i.0 (updates_of (drop (slice_index from i.0) (take t seq)))))
+  made_all = each_told o (λ (i : (r : ℕ) × (m : Standing) × (slice_get ms r ≡ Some m)) (files : Files). (seq : Sequence) → Indexes (InFiles files) (reigns instance) index seq → t ≤ length seq
+      → i.1.globals ≡ fold apply (before i.0 i.1 i.2).0.globals (updates_in (patterns instance) i.0 (updates_of (drop (slice_index from i.0) (take t seq))))) (λ i. (before i.0 i.1 i.2).2.made)
+
+  pub all_opened : 1 ≤ index.regions → t ≤ entry_count index → ((r : ℕ) (s : Standing) → slice_get rs r ≡ Some s → IsBegun (patterns instance) t (slice_index from r) r s) → IfSome o (AreGoneBack o instance t signs rs from) → IfSome o (AreOpened ms)
+  all_opened some within begun told =
+      both_weak o (λ files. (i : (r : ℕ) × (m : Standing) × (slice_get ms r ≡ Some m)) (seq : Sequence) → Indexes (InFiles files) (reigns instance) index seq → t ≤ length seq
+      → i.1.globals ≡ fold apply (before i.0 i.1 i.2).0.globals (updates_in (patterns instance) i.0 (updates_of (drop (slice_index from i.0) (take t seq))))) (AreGoneBack o instance t signs rs from) (AreOpened ms) made_all told
+      (λ files made back journal seq given r m here.
+      let b = before r m here in
+      let many = count_is files (reigns instance) index seq some given.indexed in
+      opened o instance index from t r b.0 m b.2 files (journal r) seq given.forms (begun r b.0 b.1).within (back journal given.are_signs r b.0 b.1) (made (r, m, here) seq given.indexed (omega (arith, within, many))))
+
+-- a region that can't be opened, and entries that can't be read
+module _ (o : Option Files) (instance : List InstanceRecord) (signs : List (List PlacedSign)) (index : EntryIndex) (t n f offset : ℕ) where
+  abbrev pub AreGivenRefused : Files → Type 0
+  AreGivenRefused files = (journal : ℕ → List Placed) (seq : Sequence) → AreGiven files instance signs index journal seq → AreRefused instance t seq journal n f offset files
+
+  pub signs_refused : IfSome o (λ files. (journal : ℕ → List Placed) → AreSigns files signs journal → (seq : Sequence) → AreRefused instance t seq journal n f offset files) → IfSome o AreGivenRefused
+  signs_refused told = weaker_told o (λ files. (journal : ℕ → List Placed) → AreSigns files signs journal → (seq : Sequence) → AreRefused instance t seq journal n f offset files) AreGivenRefused told (λ files all journal seq given. all journal given.are_signs seq)
+
+  pub entries_refused : 1 ≤ index.regions → t ≤ entry_count index
+      → IfSome o (λ files. (seq : Sequence) → Indexes (InFiles files) (reigns instance) index seq → AllByRecursion (λ e. IsTransaction e.transaction) seq → t ≤ length seq → ⊥) → IfSome o AreGivenRefused
+  entries_refused some within told = weaker_told o (λ files. (seq : Sequence) → Indexes (InFiles files) (reigns instance) index seq → AllByRecursion (λ e. IsTransaction e.transaction) seq → t ≤ length seq → ⊥) AreGivenRefused told (λ files none journal seq given.
+      let many = count_is files (reigns instance) index seq some given.indexed in
+      absurd (none seq given.indexed given.forms (omega (arith, within, many))))
+
+-- ---- a site that was found
 
 -- the region of a number among the same ones
 here_in : (rs ms : List Standing) → ms ≡ rs → (r : ℕ) → r < length ms → slice_get rs r ≡ Some (slice_index_or ms r no_region)
 here_in rs ms same r low = subst (λ (xs : List Standing). slice_get xs r ≡ Some (slice_index_or ms r no_region)) same (at_place ms r no_region low)
 
 -- each is on the blocks of some epoch and of its file
-pub held_told : (o : Option Files) (instance : List InstanceRecord) (t : ℕ) (seq : Sequence) (journal : ℕ → List Placed) (rs ms : List Standing) → ms ≡ rs → IfSome o (AreOpened o instance t seq journal rs)
-    → IfSome o (λ files. (r : ℕ) → r < length ms → IsHeld (slice_index_or ms r no_region) files)
-held_told o instance t seq journal rs ms same told = weaker_told o (AreOpened o instance t seq journal rs) (λ files. (r : ℕ) → r < length ms → IsHeld (slice_index_or ms r no_region) files) told
-    (λ files opens r low. (opens r (slice_index_or ms r no_region) (here_in rs ms same r low)).held)
+pub held_told : (o : Option Files) (rs ms : List Standing) → ms ≡ rs → IfSome o (λ files. (r : ℕ) (s : Standing) → slice_get rs r ≡ Some s → IsHeld s files) → IfSome o (λ files. (r : ℕ) → r < length ms → IsHeld (slice_index_or ms r no_region) files)
+held_told o rs ms same told = weaker_told o (λ files. (r : ℕ) (s : Standing) → slice_get rs r ≡ Some s → IsHeld s files) (λ files. (r : ℕ) → r < length ms → IsHeld (slice_index_or ms r no_region) files) told
+    (λ files held r low. held r (slice_index_or ms r no_region) (here_in rs ms same r low))
+
+pub files_are : (ps : List Pattern) (t : ℕ) (rs ms : List Standing) → ms ≡ rs → ((r : ℕ) (s : Standing) → slice_get rs r ≡ Some s → IsOwn ps t r s) → (r : ℕ) → r < length ms → (slice_index_or ms r no_region).file ≡ database_file r
+files_are ps t rs ms same own r low = (own r (slice_index_or ms r no_region) (here_in rs ms same r low)).file
+
+-- its entries are transactions of their form
+given_of : (files : Files) (instance : List InstanceRecord) (signs : List (List PlacedSign)) (index : EntryIndex) (u : Records) (seq : Sequence) → AreFound files instance signs index u seq → AreGiven files instance signs index u.journal seq
+given_of files instance signs index u seq found = record { are_signs = found.are_signs; indexed = found.indexed; forms = formed.entries files u seq found.held found.sequence }
 
 -- what is told of all regions, of which these are the same
-module _ (o : Option Files) (instance : List InstanceRecord) (t : ℕ) (seq : Sequence) (journal : ℕ → List Placed) (ps : List Pattern) (are : ps ≡ patterns instance) (rs ms : List Standing) (same : ms ≡ rs)
-    (counted : length rs ≡ length (regions instance)) (told : IfSome o (AreOpened o instance t seq journal rs)) where
-  abbrev all_records : Records
-  all_records = record { instance = instance; journal = journal }
+module _ (o : Option Files) (instance : List InstanceRecord) (signs : List (List PlacedSign)) (index : EntryIndex) (t : ℕ) (some : 1 ≤ index.regions) (within : t ≤ entry_count index) (ps : List Pattern) (are : ps ≡ patterns instance)
+    (rs ms : List Standing) (same : ms ≡ rs) (counted : length rs ≡ length (regions instance))
+    (told : IfSome o (λ files. (journal : ℕ → List Placed) (seq : Sequence) → AreGiven files instance signs index journal seq → (r : ℕ) (s : Standing) → slice_get rs r ≡ Some s → IsOpened instance t seq (journal r) r s files)) where
+  abbrev Told : Files → Type 0
+  Told files = (journal : ℕ → List Placed) (seq : Sequence) → AreGiven files instance signs index journal seq → (r : ℕ) (s : Standing) → slice_get rs r ≡ Some s → IsOpened instance t seq (journal r) r s files
 
-  sound_at : t ≤ length seq → (files : Files) → AreOpened o instance t seq journal rs files → IsSoundImage files all_records seq → ArePartsOf ps rs (take t seq)
-  sound_at within files opens image = subst (λ (qs : List Pattern). ArePartsOf qs rs (take t seq)) (sym are) (sound_parts files all_records t seq rs counted opens within image)
+  sound_at : (files : Files) → Told files → (u : Records) (seq : Sequence) → AreFound files instance signs index u seq → IsSoundImage files u seq → ArePartsOf ps rs (take t seq)
+  sound_at files opens u seq found image =
+      let given = given_of files instance signs index u seq found in
+      let many = count_is files (reigns instance) index seq some given.indexed in
+      subst (λ (qs : List Pattern). ArePartsOf qs rs (take t seq)) (ap patterns found.instance_is ∙ sym are)
+      (sound_parts files u t seq rs (counted ∙ ap (λ (i : List InstanceRecord). length (regions i)) (sym found.instance_is))
+      (subst (λ (i : List InstanceRecord). (r : ℕ) (s : Standing) → slice_get rs r ≡ Some s → IsOpened i t seq (u.journal r) r s files) (sym found.instance_is) (opens u.journal seq given)) (omega (arith, within, many)) image)
 
-  pub parts_told : t ≤ length seq → IfSome o (λ files. IsSoundImage files all_records seq → ArePartsOf ps ms (take t seq))
-  parts_told within = weaker_told o (AreOpened o instance t seq journal rs) (λ files. IsSoundImage files all_records seq → ArePartsOf ps ms (take t seq)) told
-      (λ files opens image. subst (λ (xs : List Standing). ArePartsOf ps xs (take t seq)) (sym same) (sound_at within files opens image))
+  pub parts_told : IfSome o (λ files. (u : Records) (seq : Sequence) → AreFound files instance signs index u seq → IsSoundImage files u seq → ArePartsOf ps ms (take t seq))
+  parts_told = weaker_told o Told (λ files. (u : Records) (seq : Sequence) → AreFound files instance signs index u seq → IsSoundImage files u seq → ArePartsOf ps ms (take t seq)) told
+      (λ files opens u seq found image. subst (λ (xs : List Standing). ArePartsOf ps xs (take t seq)) (sym same) (sound_at files opens u seq found image))
 
-  pub state_told : t ≤ length seq → (all : Globals) → ((xs : Sequence) → ArePartsOf ps rs xs → all ≡ state xs) → IfSome o (λ files. IsSoundImage files all_records seq → all ≡ state (take t seq))
-  state_told within all joins = weaker_told o (AreOpened o instance t seq journal rs) (λ files. IsSoundImage files all_records seq → all ≡ state (take t seq)) told
-      (λ files opens image. joins (take t seq) (sound_at within files opens image))
+  pub state_told : (all : Globals) → ((xs : Sequence) → ArePartsOf ps rs xs → all ≡ state xs) → IfSome o (λ files. (u : Records) (seq : Sequence) → AreFound files instance signs index u seq → IsSoundImage files u seq → all ≡ state (take t seq))
+  state_told all joins = weaker_told o Told (λ files. (u : Records) (seq : Sequence) → AreFound files instance signs index u seq → IsSoundImage files u seq → all ≡ state (take t seq)) told
+      (λ files opens u seq found image. joins (take t seq) (sound_at files opens u seq found image))
 
-  pub holds_told : IfSome o (λ files. (r : ℕ) → r < length ms → NeedsForward instance t (journal r) ⊎ HoldsRegion (chosen instance t (journal r)) (files (database_file r)) (slice_index_or ms r no_region))
-  holds_told = weaker_told o (AreOpened o instance t seq journal rs)
-      (λ files. (r : ℕ) → r < length ms → NeedsForward instance t (journal r) ⊎ HoldsRegion (chosen instance t (journal r)) (files (database_file r)) (slice_index_or ms r no_region)) told
-      (λ files opens r low. (opens r (slice_index_or ms r no_region) (here_in rs ms same r low)).holds)
-
-pub files_are : (ps : List Pattern) (t : ℕ) (seq : Sequence) (journal : ℕ → List Placed) (rs ms : List Standing) → ms ≡ rs → ((r : ℕ) (s : Standing) → slice_get rs r ≡ Some s → IsOwn ps t seq (journal r) r s) → (r : ℕ) → r < length ms → (slice_index_or ms r no_region).file ≡ database_file r
-files_are ps t seq journal rs ms same own r low =
-    (own r (slice_index_or ms r no_region) (here_in rs ms same r low)).file
+  pub holds_told : IfSome o (λ files. (u : Records) (seq : Sequence) → AreFound files instance signs index u seq → (r : ℕ) → r < length ms → NeedsForward instance t (u.journal r) ⊎ HoldsRegion (gone_back u t r) (files (database_file r)) (slice_index_or ms r no_region))
+  holds_told = weaker_told o Told
+      (λ files. (u : Records) (seq : Sequence) → AreFound files instance signs index u seq → (r : ℕ) → r < length ms → NeedsForward instance t (u.journal r) ⊎ HoldsRegion (gone_back u t r) (files (database_file r)) (slice_index_or ms r no_region)) told
+      (λ files opens u seq found r low.
+      let s = slice_index_or ms r no_region in
+      subst (λ (i : List InstanceRecord). NeedsForward instance t (u.journal r) ⊎ HoldsRegion (chosen i t (u.journal r)) (files (database_file r)) s) (sym found.instance_is)
+      (opens u.journal seq (given_of files instance signs index u seq found) r s (here_in rs ms same r low)).holds)
 
 -- the first region that can't be opened, as the disk tells it
-module _ (o : Option Files) (records : Records) (t : ℕ) (seq : Sequence) (n f offset : ℕ) (counted : n ≡ length (regions records.instance)) (sequence : IsSequence records seq)
-    (told : IfSome o (AreRefused records.instance t seq records.journal n f offset)) where
-  pub outside_told : (aim : ℕ → ℕ) → aim (length seq) ≡ t → IfSome o (λ files. AreRecords files records → HaveOutsideBlocks aim files f offset)
-  outside_told aim is = weaker_told o (AreRefused records.instance t seq records.journal n f offset) (λ files. AreRecords files records → HaveOutsideBlocks aim files f offset) told
-      (λ files all held. refused_blocks files records t seq n f offset counted all aim is held sequence)
+module _ (o : Option Files) (instance : List InstanceRecord) (signs : List (List PlacedSign)) (index : EntryIndex) (t n f offset : ℕ) (some : 1 ≤ index.regions) (within : t ≤ entry_count index) (counted : n ≡ length (regions instance))
+    (told : IfSome o (AreGivenRefused o instance signs index t n f offset)) where
+  there_refused : (files : Files) → AreGivenRefused o instance signs index t n f offset files → (u : Records) (seq : Sequence) → AreFound files instance signs index u seq → AreRefused u.instance t seq u.journal n f offset files
+  there_refused files all u seq found = subst (λ (i : List InstanceRecord). AreRefused i t seq u.journal n f offset files) (sym found.instance_is) (all u.journal seq (given_of files instance signs index u seq found))
 
-  pub unsound_told : t ≤ length seq → AllByRecursion (λ x. IsTransaction x.transaction) seq → IfSome o (λ files. IsSoundImage files records seq → ⊥)
-  unsound_told within forms = weaker_told o (AreRefused records.instance t seq records.journal n f offset) (λ files. IsSoundImage files records seq → ⊥) told
-      (λ files all image. refused_sound files records t seq n f offset counted all within image forms)
+  pub outside_told : (aim : ℕ → ℕ) → aim (entry_count index) ≡ t → IfSome o (λ files. (u : Records) (seq : Sequence) → AreFound files instance signs index u seq → HaveOutsideBlocks aim files f offset)
+  outside_told aim is = weaker_told o (AreGivenRefused o instance signs index t n f offset) (λ files. (u : Records) (seq : Sequence) → AreFound files instance signs index u seq → HaveOutsideBlocks aim files f offset) told
+      (λ files all u seq found. refused_blocks files u t seq n f offset (counted ∙ ap (λ (i : List InstanceRecord). length (regions i)) (sym found.instance_is)) (there_refused files all u seq found) aim
+      (ap aim (sym (count_is files (reigns instance) index seq some found.indexed)) ∙ is) found.held found.sequence)
+
+  pub unsound_told : IfSome o (λ files. (u : Records) (seq : Sequence) → AreFound files instance signs index u seq → IsSoundImage files u seq → ⊥)
+  unsound_told = weaker_told o (AreGivenRefused o instance signs index t n f offset) (λ files. (u : Records) (seq : Sequence) → AreFound files instance signs index u seq → IsSoundImage files u seq → ⊥) told
+      (λ files all u seq found image.
+      let many = count_is files (reigns instance) index seq some found.indexed in
+      refused_sound files u t seq n f offset (counted ∙ ap (λ (i : List InstanceRecord). length (regions i)) (sym found.instance_is)) (there_refused files all u seq found) (omega (arith, within, many)) image (formed.entries files u seq found.held found.sequence))
+
+-- ---- regions that were made anew
+
+-- none of them is refused
+anew_refused : (instance : List InstanceRecord) (t : ℕ) (seq : Sequence) (n f offset : ℕ) (files : Files) → AreRefused instance t seq (λ r. []) n f offset files → ⊥
+anew_refused instance t seq n f offset files all =
+    let blocks = block_of (files (database_file all.region)) in
+    not_outside (image_state (beginning []) blocks) nothing all.refused.block no_keys (begins_empty blocks)
+    (subst (λ (g : Globals). AreOutside (image_state (beginning []) blocks) g all.refused.block) (parts.begins (patterns instance) all.region) all.refused.outside)
+
+module _ (o : Option Files) (instance : List InstanceRecord) (index : EntryIndex) (t : ℕ) (some : 1 ≤ index.regions) (all_entries : t ≡ entry_count index) where
+  pub anew_told : (n f offset : ℕ) → IfSome o (AreGivenRefused o instance [] index t n f offset) → IfSome o (λ files. (signs : List (List PlacedSign)) (u : Records) (seq : Sequence) → AreFound files instance signs index u seq → ⊥)
+  anew_told n f offset told = weaker_told o (AreGivenRefused o instance [] index t n f offset) (λ files. (signs : List (List PlacedSign)) (u : Records) (seq : Sequence) → AreFound files instance signs index u seq → ⊥) told (λ files all signs u seq found.
+      anew_refused instance t seq n f offset files (all (λ r. []) seq (record { are_signs = none_signed files; indexed = found.indexed; forms = formed.entries files u seq found.held found.sequence })))
+
+  -- they have their parts of the state of all entries
+  module _ (rs : List Standing) (told : (r : ℕ) (s : Standing) → slice_get rs r ≡ Some s → IfSome o (λ files. (seq : Sequence) → Indexes (InFiles files) (reigns instance) index seq → s.globals ≡ region_state (patterns instance) r (take t seq))) (ps : List Pattern) (are : ps ≡ patterns instance) where
+    abbrev AnyRegion : Type 0
+    AnyRegion = (r : ℕ) × (s : Standing) × (slice_get rs r ≡ Some s)
+
+    abbrev Made : AnyRegion → Files → Type 0
+    Made i files = (seq : Sequence) → Indexes (InFiles files) (reigns instance) index seq → i.1.globals ≡ region_state (patterns instance) i.0 (take t seq)
+
+    parts_of : (files : Files) → ((i : AnyRegion) → Made i files) → (signs : List (List PlacedSign)) (u : Records) (seq : Sequence) → AreFound files instance signs index u seq → ArePartsOf ps rs seq
+    parts_of files made signs u seq found =
+        let whole : take t seq ≡ seq = ap (λ (n : ℕ). take n seq) (all_entries ∙ count_is files (reigns instance) index seq some found.indexed) ∙ take-length seq in
+        are_parts ps rs seq (λ r s here. made (r, s, here) seq found.indexed ∙ ap (region_state (patterns instance) r) whole ∙ ap (λ (qs : List Pattern). region_state qs r seq) (sym are))
+
+    pub anew_parts : (ms : List Standing) → ms ≡ rs → IfSome o (λ files. (signs : List (List PlacedSign)) (u : Records) (seq : Sequence) → AreFound files instance signs index u seq → ArePartsOf ps ms seq)
+    anew_parts ms same = weaker_told o (λ files. (i : AnyRegion) → Made i files) (λ files. (signs : List (List PlacedSign)) (u : Records) (seq : Sequence) → AreFound files instance signs index u seq → ArePartsOf ps ms seq)
+        (each_told o Made (λ i. told i.0 i.1 i.2)) (λ files made signs u seq found. subst (λ (xs : List Standing). ArePartsOf ps xs seq) (sym same) (parts_of files made signs u seq found))
+
+    pub anew_state : (all : Globals) → ((xs : Sequence) → ArePartsOf ps rs xs → all ≡ state xs) → IfSome o (λ files. (signs : List (List PlacedSign)) (u : Records) (seq : Sequence) → AreFound files instance signs index u seq → all ≡ state seq)
+    anew_state all joins = weaker_told o (λ files. (i : AnyRegion) → Made i files) (λ files. (signs : List (List PlacedSign)) (u : Records) (seq : Sequence) → AreFound files instance signs index u seq → all ≡ state seq)
+        (each_told o Made (λ i. told i.0 i.1 i.2)) (λ files made signs u seq found. joins seq (parts_of files made signs u seq found))

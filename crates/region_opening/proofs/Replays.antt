@@ -1,15 +1,13 @@
 -- Updates that are made one after another in their region.
-use Rattle.std.proofs.Common.{◌≡◌, ℕ, zero, suc, ◌+◌, ◌-◌, ◌<◌, ◌≤◌, ◌==◌, true, false, List, [], ◌∷◌, ◌++◌, length, map, take, drop, fold, get_or, refl, sym, ◌∙◌, ap, subst, arith, append-nil}
+use Rattle.std.proofs.Common.{◌≡◌, ℕ, zero, suc, ◌+◌, ◌<◌, ◌==◌, true, false, List, [], ◌∷◌, ◌++◌, length, map, take, fold, get_or, refl, sym, ◌∙◌, ap, subst, arith}
 use Rattle.std.specs.List.{AllByRecursion}
-use Rattle.std.proofs.lemmas.Grind.{flat_map-append}
-use Rattle.std.proofs.lemmas.List.{take_more, map-append, drop-map, drop-take, take-map}
+use Rattle.std.proofs.lemmas.List.{take_more, map-append}
 use Rattle.std.proofs.lemmas.List.Elements.{filter-append}
 use Rattle.std.proofs.lemmas.List.Sums.{fold-append}
-use Rattle.global_defs.specs.Entry.{Entry, Globals, Sequence, Update, apply}
+use Rattle.global_defs.specs.Entry.{Globals, Update, apply}
 use Rattle.journal_defs.specs.Directory.{Pattern}
 use Rattle.journal_defs.specs.Fit.{region_of_update}
-use Rattle.block_laws.specs.Nodes.{updates_in, updates_of}
-use Rattle.journal_laws.proofs.ImageSteps.{all_take}
+use Rattle.block_laws.specs.Nodes.{updates_in}
 use Rattle.region_store.specs.Region.{Standing, IsChanged}
 
 pub unchanged : (s : Standing) → IsChanged s s
@@ -32,27 +30,6 @@ update_more f ps r g h k xs i x low is before made =
     made ∙ ap (λ (m : Globals). fold apply m (updates_in ps r (f x ∷ []))) before
     ∙ sym (ap (λ (us : List Update). fold apply g (updates_in ps r us)) (map_more f xs i x low is) ∙ both_made ps r g (map f (take i xs)) (f x ∷ []))
 
--- one entry more
-pub entry_more : {X : Type 0} (f : X → Entry) (ps : List Pattern) (r : ℕ) (g h k : Globals) (xs : List X) (i : ℕ) (x : X) → i < length xs → x ≡ get_or xs i x
-    → h ≡ fold apply g (updates_in ps r (updates_of (map f (take i xs)))) → k ≡ fold apply h (updates_in ps r (f x).transaction.updates) → k ≡ fold apply g (updates_in ps r (updates_of (map f (take (i + 1) xs))))
-entry_more f ps r g h k xs i x low is before made =
-    let all : updates_of (map f (take (i + 1) xs)) ≡ updates_of (map f (take i xs)) ++ (f x).transaction.updates =
-    ap updates_of (map_more f xs i x low is) ∙ flat_map-append (λ (e : Entry). e.transaction.updates) (map f (take i xs)) (f x ∷ [])
-    ∙ ap (λ (us : List Update). updates_of (map f (take i xs)) ++ us) (append-nil (f x).transaction.updates) in
-    made ∙ ap (λ (m : Globals). fold apply m (updates_in ps r (f x).transaction.updates)) before
-    ∙ sym (ap (λ (us : List Update). fold apply g (updates_in ps r us)) all ∙ both_made ps r g (updates_of (map f (take i xs))) (f x).transaction.updates)
-
--- the elements from a place on up to another, mapped
-between : {X Y : Type 0} (f : X → Y) (xs : List X) (n t : ℕ) → n ≤ t → map f (take (t - n) (drop n xs)) ≡ drop n (take t (map f xs))
-between f xs n t within =
-    let all : n + (t - n) ≡ t = omega (arith, within) in
-    ap (map f) (sym (drop-take n (t - n) xs)) ∙ ap (λ (k : ℕ). map f (drop n (take k xs))) all ∙ sym (drop-map f n (take t xs)) ∙ ap (drop n) (sym (take-map f t xs))
-
--- those of the entries from a place on up to another
-pub between_made : {X : Type 0} (f : X → Entry) (ps : List Pattern) (r : ℕ) (g h : Globals) (xs : List X) (n t : ℕ) → n ≤ t → h ≡ fold apply g (updates_in ps r (updates_of (map f (take (t - n) (drop n xs)))))
-    → h ≡ fold apply g (updates_in ps r (updates_of (drop n (take t (map f xs)))))
-between_made f ps r g h xs n t within made = made ∙ ap (λ (es : Sequence). fold apply g (updates_in ps r (updates_of es))) (between f xs n t within)
-
 -- one update where its region is this one, and none where it's another
 pub one_here : (ps : List Pattern) (r : ℕ) (g : Globals) (u : Update) → (region_of_update ps u == r) ≡ true → fold apply g (updates_in ps r (u ∷ [])) ≡ apply g u
 one_here ps r g u is = rw is refl
@@ -65,13 +42,3 @@ pub holds_at : {X Y : Type 0} (P : Y → Type 0) (f : X → Y) (xs : List X) (i 
 holds_at P f [] i x low is all = absurd (omega (arith, low))
 holds_at P f (y ∷ ys) zero x low is all = subst (λ z. P (f z)) (sym is) all.0
 holds_at P f (y ∷ ys) (suc i) x low is all = holds_at P f ys i x (omega (arith, low)) is all.1
-
--- and of those from a place on
-pub holds_from : {X Y : Type 0} (P : Y → Type 0) (f : X → Y) (xs : List X) (i : ℕ) → AllByRecursion P (map f xs) → AllByRecursion P (map f (drop i xs))
-holds_from P f xs zero all = all
-holds_from P f [] (suc i) all = tt
-holds_from P f (x ∷ xs) (suc i) all = holds_from P f xs i all.1
-
--- and of the first few of these
-pub holds_between : {X Y : Type 0} (P : Y → Type 0) (f : X → Y) (xs : List X) (i m : ℕ) → AllByRecursion P (map f xs) → AllByRecursion P (map f (take m (drop i xs)))
-holds_between P f xs i m all = subst (AllByRecursion P) (take-map f m (drop i xs)) (all_take P m (map f (drop i xs)) (holds_from P f xs i all))

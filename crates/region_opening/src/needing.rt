@@ -1,15 +1,16 @@
 //! Regions that need forward recovery.
-ghost use Rattle.std.specs.Prelude.{◌≡◌, ◌≤◌, List, length, map, None, IfOk, IfSome};
+ghost use Rattle.std.specs.Prelude.{◌≡◌, ◌≤◌, ℕ, List, length, map, None, IfOk, IfSome};
 ghost use Rattle.journal_defs.specs.Epochs.{chosen, first_without};
-ghost use Rattle.jnl_record.specs.Values.{placed_value};
-ghost use Rattle.mupip_recover.specs.Site.{journal_of};
+ghost use Rattle.journal_defs.specs.Sequence.{Placed};
+ghost use Rattle.region_opening.specs.Signs.{Say, AllSay};
 ghost use Rattle.region_opening.specs.Forward.{NoneNeeds, IsFirstWithout};
 
-use super::starting::journal_at;
+use super::epoch::chosen_epoch;
+use super::forward::first_without;
+use super::starting::signs_at;
 use gvn_key::NoMemory;
 use instance_file::InstanceRecords;
-use jnl_record::PlacedRecord;
-use mupip_recover::{chosen_epoch, first_without};
+use jnl_index::PlacedSign;
 use std::alloc::Global;
 
 /// A region that needs forward recovery for a target (GT.M: its journals were NOBEFORE).
@@ -26,29 +27,29 @@ fn without_for(
     alloc: Global,
     instance: &InstanceRecords,
     target: u64,
-    journal: &[PlacedRecord],
+    signs: &[PlacedSign],
 ) -> Result<Option<u32>, NoMemory>
-    ensures { IfOk result (λ found. found ≡ first_without (map placed_value journal.now) (chosen instance.now target (map placed_value journal.now))) }
+    ensures { IfOk result (λ found. (journal : List Placed) → Say signs.now journal → found ≡ first_without journal (chosen instance.now target journal)) }
 {
-    let epoch = chosen_epoch(instance, target, journal);
-    first_without(alloc, journal, epoch)
+    let epoch = chosen_epoch(instance, target, signs);
+    first_without(alloc, signs, epoch)
 }
 
-/// The first region that needs forward recovery for a target, by the records of a site's instance file and of its regions'
-/// journals, a list for each region. A region that needs none goes back to the epoch that it has chosen for the target.
+/// The first region that needs forward recovery for a target, by the records of a site's instance file and the signs of its regions'
+/// records, a list for each region. A region that needs none goes back to the epoch that it has chosen for the target.
 pub fn first_without_images(
     alloc: Global,
     instance: &InstanceRecords,
-    journals: &[Vec<PlacedRecord>],
+    signs: &[Vec<PlacedSign>],
     target: u64,
 ) -> Result<Option<WithoutImages>, NoMemory>
-    requires few { length journals.now ≤ 8 }
-    ensures none { IfOk result (λ found. found ≡ None → NoneNeeds instance.now target (journal_of (map (λ j. j.items) journals.now)) (length journals.now)) }
-    ensures first { IfOk result (λ found. IfSome found (IsFirstWithout instance.now target (journal_of (map (λ j. j.items) journals.now)) (length journals.now))) }
+    requires few { length signs.now ≤ 8 }
+    ensures none { IfOk result (λ found. found ≡ None → (journal : ℕ → List Placed) → AllSay (map (λ s. s.items) signs.now) journal → NoneNeeds instance.now target journal (length signs.now)) }
+    ensures first { IfOk result (λ found. IfSome found (λ x. (journal : ℕ → List Placed) → AllSay (map (λ s. s.items) signs.now) journal → IsFirstWithout instance.now target journal (length signs.now) x)) }
 {
-    for number in 0..journals.len() {
-        let journal = journal_at(journals, number);
-        if let Some(generation) = without_for(alloc, instance, target, journal)? {
+    for number in 0..signs.len() {
+        let region = signs_at(signs, number);
+        if let Some(generation) = without_for(alloc, instance, target, region)? {
             return Ok(Some(WithoutImages {
                 region: number as u8,
                 generation,

@@ -1,22 +1,24 @@
 //! From where a region is opened.
 ghost use Rattle.std.specs.Prelude.{◌≡◌, ◌≤◌, List, length, map, IfOk};
-ghost use Rattle.jnl_record.specs.Values.{placed_value};
-ghost use Rattle.mupip_recover.specs.Epochs.{chosen_at};
-ghost use Rattle.mupip_recover.specs.Site.{journal_of};
+ghost use Rattle.journal_defs.specs.Sequence.{Placed};
+ghost use Rattle.entry_index.specs.Signs.{signs_of};
+ghost use Rattle.region_opening.specs.Epochs.{chosen_at};
+ghost use Rattle.region_opening.specs.Signs.{Say};
 ghost use Rattle.region_opening.specs.Opening.{IsStart};
 
+use super::epoch::{EpochAt, chosen_epoch};
+use super::forward::first_without;
 use gvn_key::NoMemory;
 use instance_file::InstanceRecords;
-use jnl_record::PlacedRecord;
-use mupip_recover::{EpochAt, chosen_epoch, first_without};
+use jnl_index::PlacedSign;
 use std::alloc::Global;
 
-/// The records of a region; none where there is no list for it.
-pub(crate) fn journal_at(journals: &[Vec<PlacedRecord>], number: usize) -> &[PlacedRecord]
-    ensures { map placed_value result.now ≡ journal_of (map (λ j. j.items) journals.now) number }
+/// The signs of a region's records; none where there is no list for it.
+pub(crate) fn signs_at(signs: &[Vec<PlacedSign>], number: usize) -> &[PlacedSign]
+    ensures { result.now ≡ signs_of (map (λ s. s.items) signs.now) number }
 {
-    match journals.get(number) {
-        Some(journal) => journal.as_slice(),
+    match signs.get(number) {
+        Some(region) => region.as_slice(),
         None => &[],
     }
 }
@@ -26,19 +28,19 @@ pub(crate) fn start_of(
     alloc: Global,
     instance: &InstanceRecords,
     target: u64,
-    journal: &[PlacedRecord],
+    signs: &[PlacedSign],
 ) -> Result<EpochAt, NoMemory>
-    ensures inside { IfOk result (λ e. e.after ≤ length journal.now) }
+    ensures inside { IfOk result (λ e. e.after ≤ length signs.now) }
     ensures number { IfOk result (λ e. e.number ≤ target) }
-    ensures start { IfOk result (λ e. IsStart instance.now target (map placed_value journal.now) (chosen_at e journal.now)) }
+    ensures start { IfOk result (λ e. (journal : List Placed) → Say signs.now journal → IsStart instance.now target journal (chosen_at e journal)) }
 {
-    let epoch = chosen_epoch(instance, target, journal);
-    let found = first_without(alloc, journal, epoch)?;
+    let epoch = chosen_epoch(instance, target, signs);
+    let found = first_without(alloc, signs, epoch)?;
     if found.is_some() {
         return Ok(EpochAt {
             number: 0,
             blocks: 0,
-            after: journal.len(),
+            after: signs.len(),
         });
     }
     Ok(epoch)

@@ -14,7 +14,7 @@ use Rattle.site_defs.specs.Contents.{Contents, NO_LEFTOVER, bare}
 use Rattle.site_defs.specs.Fronts.{with_sequence, IsFrontOf}
 use Rattle.site_defs.specs.Stands.{IsSite, HasLeft}
 use Rattle.site_store.specs.declared.site.OpenSite.{OpenSite}
-use Rattle.site_store.specs.Site.{IsOpen, HasReign, with_entry}
+use Rattle.site_store.specs.Site.{IsOpen, HasReign, with_entry, count_of}
 use Rattle.repl_section.specs.declared.reign.Reign.{Reign}
 use Rattle.repl_section.specs.Replies.{named}
 use Rattle.repl_section.specs.Reigns.{stamp_in, stamp_of}
@@ -100,11 +100,11 @@ pub with_it_perhaps : (w : View) (c : Contents) (e : Entry) → IsSome w.content
 with_it_perhaps w c e told fronts = record { told = told; images = λ f i. let front = fronts f i in with_it_or_not f c front.0 e front.1 front.2 }
 
 -- what the committed job comes to
-pub committed : (stamp : Stamp) (r : Reign) (seq : Sequence) (u : ℕ) (us : List Update) (answers : Answers) → length r.site.entries ≡ length seq → 1 ≤ length us → length r.site.entries + 1 < 2 ^ 40
+pub committed : (stamp : Stamp) (r : Reign) (seq : Sequence) (u : ℕ) (us : List Update) (answers : Answers) → count_of r.site ≡ length seq → 1 ≤ length us → count_of r.site + 1 < 2 ^ 40
     → outcome stamp r.serials seq u (Done us answers) ≡ replied (begun r.serials [] seq) u (Seq (length seq + 1) answers) (seq ++ entry_of stamp u (serial_at r.serials u) us ∷ [])
 committed stamp r seq u us answers h some room = appended_is stamp r.serials seq u us answers some (omega (arith, h, room))
 
-pub commit_appends : (stamp : Stamp) (r : Reign) (seq : Sequence) (u : ℕ) (us : List Update) (answers : Answers) → length r.site.entries ≡ length seq → 1 ≤ length us → length r.site.entries + 1 < 2 ^ 40 → Appends seq (outcome stamp r.serials seq u (Done us answers))
+pub commit_appends : (stamp : Stamp) (r : Reign) (seq : Sequence) (u : ℕ) (us : List Update) (answers : Answers) → count_of r.site ≡ length seq → 1 ≤ length us → count_of r.site + 1 < 2 ^ 40 → Appends seq (outcome stamp r.serials seq u (Done us answers))
 commit_appends stamp r seq u us answers h some room = subst (Appends seq) (sym (committed stamp r seq u us answers h some room)) (record {
   entry = entry_of stamp u (serial_at r.serials u) us;
   sequence = refl;
@@ -114,14 +114,14 @@ commit_appends stamp r seq u us answers h some room = subst (Appends seq) (sym (
 })
 
 pub commit_done : (w : View) (told : Bool) (c : Contents) (h : ℕ) (v : View) (r m s : Reign) (u serial number : ℕ) (us : List Update) (answers : Answers) (d : Replied)
-    → IsOpen v told c h r.site → HasReign r.site → 1 ≤ length us → length r.site.entries + 1 < 2 ^ 40 → serial ≡ serial_at r.serials u → number ≡ length r.site.entries + 1
+    → IsOpen v told c h r.site → HasReign r.site → 1 ≤ length us → count_of r.site + 1 < 2 ^ 40 → serial ≡ serial_at r.serials u → number ≡ count_of r.site + 1
     → IsOpen w told (with_entry r.site.stamp (record { origin = record { updater = u; serial = serial }; updates = us }) c) h m.site → m.serials ≡ r.serials
     → s ≡ record m { serials = s.serials } → s.serials ≡ set m.serials (u - 1) (serial + 1) → d ≡ record { updater = u; serial = serial; reply = Seq number answers }
     → ComesTo w told c h (outcome (stamp_of r) r.serials c.sequence u (Done us answers)) s d
 commit_done w told c h v r m s u serial number us answers d was reign some room at is entered kept same raised decision =
     let stamp = stamp_of r in
     let seq = c.sequence ++ entry_of stamp u serial us ∷ [] in
-    let n : length r.site.entries ≡ length c.sequence = entries_counted v told c h r.site was in
+    let n : count_of r.site ≡ length c.sequence = entries_counted v told c h r.site was in
     let there : IsOpen w told (with_sequence c seq) h m.site =
     subst (λ (x : Contents). IsOpen w told x h m.site) (entry_under r.site.stamp reign.stamp (record { origin = record { updater = u; serial = serial }; updates = us }) c reign.is) entered in
     let number_is : number ≡ length c.sequence + 1 = is ∙ ap (λ (k : ℕ). k + 1) n in
@@ -132,11 +132,11 @@ commit_done w told c h v r m s u serial number us answers d was reign some room 
     (decision ∙ ap (λ (k : ℕ). record { updater = u; serial = serial; reply = Seq k answers }) number_is))
 
 -- and the reply names no entry past the last one
-pub commit_entered : (r m s : Reign) (u serial number : ℕ) (answers : Answers) (d : Replied) → number ≡ length r.site.entries + 1 → length m.site.entries ≡ length r.site.entries + 1
-    → s ≡ record m { serials = s.serials } → d ≡ record { updater = u; serial = serial; reply = Seq number answers } → IfSome (named d.reply) (λ n. n ≤ length s.site.entries)
+pub commit_entered : (r m s : Reign) (u serial number : ℕ) (answers : Answers) (d : Replied) → number ≡ count_of r.site + 1 → count_of m.site ≡ count_of r.site + 1
+    → s ≡ record m { serials = s.serials } → d ≡ record { updater = u; serial = serial; reply = Seq number answers } → IfSome (named d.reply) (λ n. n ≤ count_of s.site)
 commit_entered r m s u serial number answers d is grown same decision =
-    let count : length s.site.entries ≡ length m.site.entries = ap (λ (x : Reign). length x.site.entries) same in
-    subst (λ (y : Replied). IfSome (named y.reply) (λ n. n ≤ length s.site.entries)) (sym decision) (omega (arith, is, grown, count))
+    let count : count_of s.site ≡ count_of m.site = ap (λ (x : Reign). count_of x.site) same in
+    subst (λ (y : Replied). IfSome (named y.reply) (λ n. n ≤ count_of s.site)) (sym decision) (omega (arith, is, grown, count))
 
 pub unnamed_entered : (d : Replied) (count : ℕ) → named d.reply ≡ None → IfSome (named d.reply) (λ n. n ≤ count)
 unnamed_entered d count none = subst (λ (o : Option ℕ). IfSome o (λ n. n ≤ count)) (sym none) _

@@ -6,7 +6,7 @@ use Rattle.disk_defs.proofs.Moments.{holds_now}
 use Rattle.site_defs.specs.Contents.{Contents, NO_LEFTOVER}
 use Rattle.site_defs.specs.Fronts.{with_sequence}
 use Rattle.site_defs.specs.Stands.{IsSite, HasLeft}
-use Rattle.site_store.specs.Site.{IsOpen}
+use Rattle.site_store.specs.Site.{IsOpen, count_of}
 use Rattle.site_store.specs.declared.site.OpenSite.{OpenSite}
 use Rattle.site_store.proofs.Emptied.{none_left}
 use Rattle.site_store.proofs.Standing.{told_of}
@@ -25,6 +25,6 @@ stands_after v w c h s lawful is told run bare = record {
   bare = holds_now v w (λ f. HasLeft f (with_sequence c (take h c.sequence)) NO_LEFTOVER) lawful bare;
 }
 
--- as many entries in memory
-pub entries_counted : (v : View) (told : Bool) (c : Contents) (h : ℕ) (s : OpenSite) → IsOpen v told c h s → length s.entries ≡ length c.sequence
+-- places of as many entries in memory
+pub entries_counted : (v : View) (told : Bool) (c : Contents) (h : ℕ) (s : OpenSite) → IsOpen v told c h s → count_of s ≡ length c.sequence
 entries_counted v told c h s is = is.remembered.count

@@ -8,7 +8,7 @@ ghost use Rattle.global_defs.specs.Serial.{serial_at};
 ghost use Rattle.gvn_model.specs.Entries.{origin_value};
 ghost use Rattle.gvn_model.specs.Jobs.{job_value, evaluated_value};
 ghost use Rattle.site_defs.specs.Contents.{Contents};
-ghost use Rattle.site_store.specs.Site.{IsReady, IsOpen, HasReign, HasRoomFor};
+ghost use Rattle.site_store.specs.Site.{IsReady, IsOpen, HasReign, HasRoomFor, count_of};
 ghost use Rattle.repl_section.specs.Replies.{named, replied_value};
 ghost use Rattle.repl_section.specs.Reigns.{stamp_of};
 ghost use Rattle.repl_section.specs.Deciding.{outcome, FitsIn, ComesTo, Appends, StandsAt};
@@ -74,14 +74,14 @@ impl Reign {
         requires origin { IsOrigin (origin_value origin) }
         requires serial { origin.serial ≡ serial_at self.old.serials origin.updater }
         requires some { 1 ≤ length updates }
-        requires room { length self.old.site.entries + 1 < 2 ^ 40 }
+        requires room { count_of self.old.site + 1 < 2 ^ 40 }
         requires nodes { HasRoomFor (joined self.old.site.globals) updates }
         ensures ready { OnOk result (IsReady (D.disk disk.new) self.new.site) }
         ensures reign { OnOk result (HasReign self.new.site) }
         ensures stamp { self.new.site.stamp ≡ self.old.site.stamp }
         ensures done { IfOk result (λ decision. (told : Bool) (c : Contents) (h : ℕ) → IsOpen (D.disk disk.old) told c h self.old.site → ComesTo (D.disk disk.new) told c h (outcome (stamp_of self.old) self.old.serials c.sequence origin.updater (evaluation.Done updates answers)) self.new decision) }
-        ensures entered { IfOk result (λ decision. IfSome (named decision.reply) (λ number. number ≤ length self.new.site.entries)) }
-        ensures grown { OnOk result (length self.old.site.entries ≤ length self.new.site.entries) }
+        ensures entered { IfOk result (λ decision. IfSome (named decision.reply) (λ number. number ≤ count_of self.new.site)) }
+        ensures grown { OnOk result (count_of self.old.site ≤ count_of self.new.site) }
         ensures stands { (c : Contents) (h : ℕ) → IsOpen (D.disk disk.old) true c h self.old.site → StandsAt (D.disk disk.new) c h }
         ensures simulated { (D.disk disk.new).simulated ≡ (D.disk disk.old).simulated }
         ensures later { (D.disk disk.old).faults ≤ (D.disk disk.new).faults }
@@ -111,8 +111,8 @@ impl Reign {
         ensures reign { OnOk result (HasReign self.new.site) }
         ensures stamp { self.new.site.stamp ≡ self.old.site.stamp }
         ensures done { IfOk result (λ decision. (told : Bool) (c : Contents) (h : ℕ) → IsOpen (D.disk disk.old) told c h self.old.site → ComesTo (D.disk disk.new) told c h (outcome (stamp_of self.old) self.old.serials c.sequence origin.updater (evaluated_value evaluated)) self.new decision) }
-        ensures entered { IfOk result (λ decision. IfSome (named decision.reply) (λ number. number ≤ length self.new.site.entries)) }
-        ensures grown { OnOk result (length self.old.site.entries ≤ length self.new.site.entries) }
+        ensures entered { IfOk result (λ decision. IfSome (named decision.reply) (λ number. number ≤ count_of self.new.site)) }
+        ensures grown { OnOk result (count_of self.old.site ≤ count_of self.new.site) }
         ensures appends { IsErrOf result DecideError.Failed → (told : Bool) (c : Contents) (h : ℕ) → IsOpen (D.disk disk.old) told c h self.old.site → Appends c.sequence (outcome (stamp_of self.old) self.old.serials c.sequence origin.updater (evaluated_value evaluated)) }
         ensures stands { (c : Contents) (h : ℕ) → IsOpen (D.disk disk.old) true c h self.old.site → StandsAt (D.disk disk.new) c h }
         ensures simulated { (D.disk disk.new).simulated ≡ (D.disk disk.old).simulated }
@@ -124,7 +124,7 @@ impl Reign {
             Evaluated::Done { updates, answers } => {
                 if updates.is_empty() {
                     Reply::Read(answers)
-                } else if LAST_NUMBER <= self.site.entries.len() {
+                } else if LAST_NUMBER <= self.site.sequence_length() {
                     Reply::RolledBack(Cause::SeqLimit)
                 } else {
                     return self.commit(alloc, disk, origin, updates, answers);
@@ -154,8 +154,8 @@ impl Reign {
         ensures reign { OnOk result (HasReign self.new.site) }
         ensures stamp { self.new.site.stamp ≡ self.old.site.stamp }
         ensures done { IfOk result (λ decision. (told : Bool) (c : Contents) (h : ℕ) → IsOpen (D.disk disk.old) told c h self.old.site → ComesTo (D.disk disk.new) told c h (outcome (stamp_of self.old) self.old.serials c.sequence updater (eval (job_value job) (joined self.old.site.globals))) self.new decision) }
-        ensures entered { IfOk result (λ decision. IfSome (named decision.reply) (λ number. number ≤ length self.new.site.entries)) }
-        ensures grown { OnOk result (length self.old.site.entries ≤ length self.new.site.entries) }
+        ensures entered { IfOk result (λ decision. IfSome (named decision.reply) (λ number. number ≤ count_of self.new.site)) }
+        ensures grown { OnOk result (count_of self.old.site ≤ count_of self.new.site) }
         ensures appends { IsErrOf result DecideError.Failed → (told : Bool) (c : Contents) (h : ℕ) → IsOpen (D.disk disk.old) told c h self.old.site → Appends c.sequence (outcome (stamp_of self.old) self.old.serials c.sequence updater (eval (job_value job) (joined self.old.site.globals))) }
         ensures stands { (c : Contents) (h : ℕ) → IsOpen (D.disk disk.old) true c h self.old.site → StandsAt (D.disk disk.new) c h }
         ensures simulated { (D.disk disk.new).simulated ≡ (D.disk disk.old).simulated }

@@ -1,5 +1,5 @@
 //! Giving the site entries.
-ghost use Rattle.std.specs.Prelude.{◌≡◌, ◌≤◌, ◌<◌, ◌+◌, ◌^◌, ℕ, Bool, true, length, IfOk, OnOk, OnErr, IsErrOf, IsSome};
+ghost use Rattle.std.specs.Prelude.{◌≡◌, ◌≤◌, ◌<◌, ◌+◌, ◌^◌, ℕ, Bool, true, IfOk, OnOk, IsErrOf, IsSome};
 ghost use Rattle.disk_defs.specs.Disk.{Files, Image, Rose};
 ghost use Rattle.global_defs.specs.Fields.{IsTransaction};
 ghost use Rattle.gvn_model.specs.Entries.{transaction_value};
@@ -7,7 +7,7 @@ ghost use Rattle.site_defs.specs.Contents.{Contents, Standing};
 ghost use Rattle.site_defs.specs.Fronts.{IsFrontOf};
 ghost use Rattle.site_defs.specs.Stands.{IsSite};
 ghost use Rattle.site_defs.specs.Behind.{IsFrontLeft, IsSiteWith};
-ghost use Rattle.site_store.specs.Site.{IsReady, IsOpen, HasReign, HasRoomFor, with_entry};
+ghost use Rattle.site_store.specs.Site.{IsReady, IsOpen, HasReign, HasRoomFor, with_entry, count_of};
 ghost use Rattle.repl_section.specs.Reigns.{Reigns};
 ghost use Rattle.repl_section.specs.Deciding.{StandsAt};
 ghost use Rattle.site_regions.specs.Joined.{joined};
@@ -30,13 +30,13 @@ impl Reign {
         requires ready { IsReady (D.disk disk.old) self.old.site }
         requires reign { HasReign self.old.site }
         requires form { IsTransaction (transaction_value t) }
-        requires room { length self.old.site.entries + 1 < 2 ^ 40 }
+        requires room { count_of self.old.site + 1 < 2 ^ 40 }
         requires nodes { HasRoomFor (joined self.old.site.globals) t.updates }
         ensures ready { OnOk result (IsReady (D.disk disk.new) self.new.site) }
         ensures reign { OnOk result (HasReign self.new.site) }
         ensures done { OnOk result ((told : Bool) (c : Contents) (h : ℕ) → IsOpen (D.disk disk.old) told c h self.old.site → IsOpen (D.disk disk.new) told (with_entry self.old.site.stamp (transaction_value t) c) h self.new.site) }
-        ensures number { IfOk result (λ n. n ≡ length self.old.site.entries + 1) }
-        ensures grown { OnOk result (length self.new.site.entries ≡ length self.old.site.entries + 1) }
+        ensures number { IfOk result (λ n. n ≡ count_of self.old.site + 1) }
+        ensures grown { OnOk result (count_of self.new.site ≡ count_of self.old.site + 1) }
         ensures stamp { self.new.site.stamp ≡ self.old.site.stamp }
         ensures serials { self.new.serials ≡ self.old.serials }
         ensures stands { (c : Contents) (h : ℕ) → IsOpen (D.disk disk.old) true c h self.old.site → StandsAt (D.disk disk.new) c h }
@@ -44,7 +44,7 @@ impl Reign {
         ensures later { (D.disk disk.old).faults ≤ (D.disk disk.new).faults }
         ensures cause { IsErrOf result DecideError.Failed → Rose (D.disk disk.old).faults (D.disk disk.new).faults }
     {
-        match self.site.commit_owned(alloc, disk, t) {
+        match self.site.commit(alloc, disk, &t) {
             Ok(number) => Ok(number),
             Err(SiteError::Failed { .. }) => Err(DecideError::Failed),
             Err(SiteError::NoMemory) => Err(DecideError::NoMemory),
@@ -63,7 +63,7 @@ impl Reign {
         ensures ready { OnOk result (IsReady (D.disk disk.new) self.new.site) }
         ensures reign { HasReign self.new.site }
         ensures done { OnOk result ((told : Bool) (c : Contents) (h : ℕ) → IsOpen (D.disk disk.old) told c h self.old.site → Reigns (D.disk disk.new) told c self.new) }
-        ensures all { OnOk result (self.new.site.hardened ≡ length self.new.site.entries) }
+        ensures all { OnOk result (self.new.site.hardened ≡ count_of self.new.site) }
         ensures entries { self.new.site.entries ≡ self.old.site.entries }
         ensures stamp { self.new.site.stamp ≡ self.old.site.stamp }
         ensures serials { self.new.serials ≡ self.old.serials }

@@ -1,5 +1,5 @@
 //! Deciding one job, with all that its reply waits for.
-ghost use Rattle.std.specs.Prelude.{◌≡◌, ◌≤◌, ℕ, Bool, true, length, IfSome, IsSome, OnOk, OnErr, IsErrOf};
+ghost use Rattle.std.specs.Prelude.{◌≡◌, ◌≤◌, ℕ, Bool, true, IfSome, IsSome, OnOk, OnErr, IsErrOf};
 ghost use Rattle.disk_defs.specs.Disk.{Files, Image, Rose};
 ghost use Rattle.global_defs.specs.Evaluation.{eval};
 ghost use Rattle.gvn_model.specs.Jobs.{job_value};
@@ -7,7 +7,7 @@ ghost use Rattle.site_defs.specs.Contents.{Contents, Standing};
 ghost use Rattle.site_defs.specs.Fronts.{IsFrontOf};
 ghost use Rattle.site_defs.specs.Stands.{IsSite};
 ghost use Rattle.site_defs.specs.Behind.{IsFrontLeft, IsSiteWith};
-ghost use Rattle.site_store.specs.Site.{IsReady, IsOpen, HasReign};
+ghost use Rattle.site_store.specs.Site.{IsReady, IsOpen, HasReign, count_of};
 ghost use Rattle.repl_section.specs.Replies.{named};
 ghost use Rattle.repl_section.specs.Reigns.{Reigns, stamp_of};
 ghost use Rattle.repl_section.specs.Deciding.{outcome, hardened_for, HasCome, Appends, MayHave, LeavesPick};
@@ -26,7 +26,7 @@ impl Reign {
     fn harden_for<D: Disk>(&mut self, disk: &mut D, decision: &Decision) -> Result<(), DecideError>
         requires ready { IsReady (D.disk disk.old) self.old.site }
         requires reign { HasReign self.old.site }
-        requires entered { IfSome (named decision.now.reply) (λ number. number ≤ length self.old.site.entries) }
+        requires entered { IfSome (named decision.now.reply) (λ number. number ≤ count_of self.old.site) }
         ensures ready { OnOk result (IsReady (D.disk disk.new) self.new.site) }
         ensures reign { HasReign self.new.site }
         ensures done { OnOk result ((told : Bool) (c : Contents) (h : ℕ) → IsOpen (D.disk disk.old) told c h self.old.site → IsOpen (D.disk disk.new) told c (hardened_for (named decision.now.reply) c h) self.new.site) }

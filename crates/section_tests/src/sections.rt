@@ -213,7 +213,7 @@ fn stand_after(rt: &impl Abort, alloc: Global, calls: u64, pick: u64) {
     };
     disk.crash(pick);
     let again = load(alloc, &mut disk).expect(rt, "it succeeds");
-    let left = again.entries.len();
+    let left = again.sequence_length();
     assert!(rt;
         told <= left && left <= told + 1,
         "pick {pick}, calls {calls}"

@@ -11,6 +11,7 @@ pub mod Errors
 pub mod RegionsRead
 pub mod WhatIsRead
 pub mod Kept
-pub mod Recovered
+pub mod PastRead
+pub mod Counts
 pub mod RecordsRead
 pub mod Places

@@ -1,5 +1,5 @@
 -- Records that were read, whatever their generation.
-use Rattle.std.proofs.Common.{◌≡◌, inl, inr, ℕ, ◌≤◌, ◌<◌, List, [], ◌∷◌, length, Option, None, IfSome, sym, ◌∙◌, ap, subst, arith}
+use Rattle.std.proofs.Common.{◌≡◌, inl, inr, ℕ, ◌≤◌, ◌<◌, List, [], ◌∷◌, length, Option, None, IfSome, refl, sym, ◌∙◌, ap, subst, arith}
 use Rattle.std.specs.List.{AllByRecursion}
 use Rattle.std.proofs.lemmas.Bool.{cases_lt}
 use Rattle.disk_defs.specs.Disk.{Files}
@@ -8,12 +8,12 @@ use Rattle.journal_defs.specs.Numbers.{INSTANCE}
 use Rattle.journal_defs.specs.Instance.{InstanceRecord, Create, Reigned, Cut, Map, Mode, IsInForm, generation, regions}
 use Rattle.journal_defs.specs.Sequence.{Placed, Records}
 use Rattle.journal_defs.specs.Stands.{IsInstance, IsJournal, AreRecords}
-use Rattle.jnl_record.specs.declared.placed.PlacedRecord.{PlacedRecord}
-use Rattle.mupip_recover.specs.Site.{journal_of, site_records}
+use Rattle.jnl_index.specs.declared.placed.PlacedSign.{PlacedSign}
+use Rattle.entry_index.specs.Indexes.{AreSigns}
 use Rattle.site_files.specs.Loading.{IsDirectory}
-use Rattle.site_files.specs.Reading.{HoldNoSite}
+use Rattle.site_files.specs.Reading.{HaveSigns, HoldNoSite}
 use Rattle.site_defs.specs.Outside.{HaveJournals}
-use Rattle.site_files.proofs.WhatIsRead.{instance_one, none_past}
+use Rattle.site_files.proofs.WhatIsRead.{instance_one}
 
 pub generation_low : (rs : List InstanceRecord) → AllByRecursion IsInForm rs → generation rs ≤ 65535
 generation_low [] form = omega arith
@@ -52,12 +52,18 @@ module _ (o : Option Files) (rs : List InstanceRecord) (reads : IfSome o (λ fil
       no have.0 s.journal have.1)
 
 -- the records that were found, together
-pub are_held : (o : Option Files) (rs : List InstanceRecord) (last : ℕ → ℕ) (js : List (List PlacedRecord)) (n g : ℕ) → n ≡ length (regions rs) → g ≡ generation rs → length js ≡ n
-    → IfSome o (λ files. IsInstance (files INSTANCE) rs) → IfSome o (HaveJournals n g last (journal_of js)) → IfSome o (λ files. AreRecords files (site_records rs js))
-are_held o rs last js n g many newest all is have =
-    both_weak o (λ files. IsInstance (files INSTANCE) rs) (HaveJournals n g last (journal_of js)) (λ files. AreRecords files (site_records rs js)) is have
-    (λ files here there. record {
-      instance = here;
-      journals = λ r low. (last r, subst (λ (k : ℕ). IsJournal files r k (last r) (journal_of js r)) newest (there r (omega (arith, low, many))));
-      no_more = λ r high. none_past js n r all (omega (arith, high, many));
-    })
+pub are_held : (o : Option Files) (rs : List InstanceRecord) (last : ℕ → ℕ) (signs : List (List PlacedSign)) (n g : ℕ) → n ≡ length (regions rs) → g ≡ generation rs → length signs ≡ n
+    → IfSome o (λ files. IsInstance (files INSTANCE) rs) → IfSome o (HaveSigns n g last signs)
+    → IfSome o (λ files. (u : Records) × (u.instance ≡ rs) × AreRecords files u × AreSigns files signs u.journal)
+are_held o rs last signs n g many newest all is have =
+    both_weak o (λ files. IsInstance (files INSTANCE) rs) (HaveSigns n g last signs) (λ files. (u : Records) × (u.instance ≡ rs) × AreRecords files u × AreSigns files signs u.journal) is have
+    (λ files here there. (
+      record { instance = rs; journal = there.journal },
+      refl,
+      record {
+        instance = here;
+        journals = λ r low. (last r, subst (λ (k : ℕ). IsJournal files r k (last r) (there.journal r)) newest (there.have r (omega (arith, low, many))));
+        no_more = λ r high. there.are.no_more r (omega (arith, high, many, all));
+      },
+      there.are,
+    ))

@@ -1,6 +1,7 @@
 -- Reading on from region to region.
-use Rattle.std.proofs.Common.{◌≡◌, inl, inr, ℕ, zero, suc, ◌+◌, ◌≤◌, ◌<◌, List, Vec, Global, [], ◌∷◌, ◌++◌, length, map, Option, Some, IfSome, sym, ◌∙◌, ap, subst, arith}
+use Rattle.std.proofs.Common.{◌≡◌, inl, inr, ℕ, zero, suc, ◌+◌, ◌≤◌, ◌<◌, ◌==◌, true, false, if◌then◌else◌, List, [], ◌∷◌, ◌++◌, length, map, get_or, Option, Some, IfSome, refl, sym, ◌∙◌, ap, subst, arith}
 use Rattle.std.proofs.lemmas.Bool.{cases_eq}
+use Rattle.std.proofs.lemmas.Bool.Decides.{nat_tests}
 use Rattle.std.proofs.lemmas.List.{map-append, length-map, length-append, get_or_append_left, get_or_push}
 use Rattle.std.specs.List.{AllByRecursion}
 use Rattle.disk_defs.specs.Disk.{Files, View, Image, IsLawful, IsDurable, AtEachMoment}
@@ -9,17 +10,20 @@ use Rattle.disk_defs.proofs.Moments.{holds_now}
 use Rattle.disk_defs.proofs.Told.{told_at, weaker_told, both_weak}
 use Rattle.journal_defs.specs.Numbers.{journal_file}
 use Rattle.journal_defs.specs.Sequence.{Placed}
-use Rattle.journal_defs.specs.Stands.{IsJournal}
+use Rattle.journal_defs.specs.Journal.{JournalRecord}
+use Rattle.journal_defs.specs.Stands.{IsJournal, in_generation}
 use Rattle.journal_laws.proofs.ImageSteps.{all_both}
 use Rattle.jnl_file.specs.Generations.{AreDurable}
+use Rattle.jnl_file.proofs.Newer.{all_told}
 use Rattle.site_defs.specs.OutsideJournal.{IsOutsideGenerations}
-use Rattle.jnl_file.specs.Reading.{IsReadRecord}
-use Rattle.jnl_record.specs.declared.placed.PlacedRecord.{PlacedRecord}
-use Rattle.jnl_record.specs.Values.{placed_value}
-use Rattle.mupip_recover.specs.Site.{journal_of}
+use Rattle.jnl_index.specs.declared.placed.PlacedSign.{PlacedSign}
+use Rattle.jnl_index.specs.Order.{AreInOrder}
+use Rattle.jnl_index.specs.Places.{AreSignsOf}
+use Rattle.entry_index.specs.Among.{AreAllInOrder}
+use Rattle.entry_index.specs.Indexes.{AreSigns}
 use Rattle.site_files.specs.Loading.{last_of}
 use Rattle.site_defs.specs.Outside.{AreOutside, HaveBegun, HaveJournals, AreUnbegun}
-use Rattle.site_files.specs.Reading.{AreAllRead, AreAllDurable, AreUnbegunDurable}
+use Rattle.site_files.specs.Reading.{HaveSigns, AreAllDurable, AreUnbegunDurable}
 
 -- what is on the disk for good stays so where nothing new comes
 pub durable_kept : (u v : View) (file : ℕ) (bytes : List ℕ) → IsLawful v → AtEachMoment u v (Image u) → IsDurable u file bytes → IsDurable v file bytes
@@ -35,36 +39,68 @@ region_more P Q n m more before gives here r low = elim (cases_eq r n) [
 last_kept : (lasts : List ℕ) (last n r : ℕ) → length lasts ≡ n → r < n → last_of (lasts ++ last ∷ []) r ≡ last_of lasts r
 last_kept lasts last n r many low = get_or_append_left lasts (last ∷ []) 0 r (omega (arith, many, low))
 
-journal_kept : (js : List (List PlacedRecord)) (ps : List PlacedRecord) (n r : ℕ) → length js ≡ n → r < n → journal_of (js ++ ps ∷ []) r ≡ journal_of js r
-journal_kept js ps n r many low = ap (map placed_value) (get_or_append_left js (ps ∷ []) [] r (omega (arith, many, low)))
+-- the records of regions, and of one more
+abbrev and_one : (ℕ → List Placed) → ℕ → List Placed → ℕ → List Placed
+and_one journal n new r = if r == n then new else journal r
 
-have_more : (files : Files) (n m g : ℕ) (lasts : List ℕ) (js : List (List PlacedRecord)) (last : ℕ) (ps : List PlacedRecord) → m ≡ n + 1 → length lasts ≡ n → length js ≡ n → HaveJournals n g (last_of lasts) (journal_of js) files
-    → IsJournal files n g last (map placed_value ps) → HaveJournals m g (last_of (lasts ++ last ∷ [])) (journal_of (js ++ ps ∷ [])) files
-have_more files n m g lasts js last ps more many_last many before here =
-    let Was = λ (r : ℕ). IsJournal files r g (last_of lasts r) (journal_of js r) in
-    let Is = λ (r : ℕ). IsJournal files r g (last_of (lasts ++ last ∷ []) r) (journal_of (js ++ ps ∷ []) r) in
-    let at_last : last_of (lasts ++ last ∷ []) n ≡ last = get_or_push lasts last 0 n many_last in
-    let at_journal : journal_of (js ++ ps ∷ []) n ≡ map placed_value ps = ap (map placed_value) (get_or_push js ps [] n many) in
+one_here : (journal : ℕ → List Placed) (n : ℕ) (new : List Placed) → and_one journal n new n ≡ new
+one_here journal n new = let same : (n == n) ≡ true = grind (arith, nat_tests) in rw same refl
+
+one_other : (journal : ℕ → List Placed) (n r : ℕ) (new : List Placed) → (r ≡ n → ⊥) → and_one journal n new r ≡ journal r
+one_other journal n r new other = let differ : (r == n) ≡ false = grind (arith, nat_tests) in rw differ refl
+
+have_more : (files : Files) (n m g : ℕ) (lasts : List ℕ) (journal : ℕ → List Placed) (last : ℕ) (new : List Placed) → m ≡ n + 1 → length lasts ≡ n → HaveJournals n g (last_of lasts) journal files
+    → IsJournal files n g last new → HaveJournals m g (last_of (lasts ++ last ∷ [])) (and_one journal n new) files
+have_more files n m g lasts journal last new more many before here =
+    let Was = λ (r : ℕ). IsJournal files r g (last_of lasts r) (journal r) in
+    let Is = λ (r : ℕ). IsJournal files r g (last_of (lasts ++ last ∷ []) r) (and_one journal n new r) in
     region_more Was Is n m more before
-    (λ r low was. subst (λ (k : ℕ). IsJournal files r g k (journal_of (js ++ ps ∷ []) r)) (sym (last_kept lasts last n r many_last low))
-    (subst (λ (l : List Placed). IsJournal files r g (last_of lasts r) l) (sym (journal_kept js ps n r many low)) was))
-    (subst (λ (k : ℕ). IsJournal files n g k (journal_of (js ++ ps ∷ []) n)) (sym at_last)
-    (subst (λ (l : List Placed). IsJournal files n g last l) (sym at_journal) here))
+    (λ r low was. subst (λ (k : ℕ). IsJournal files r g k (and_one journal n new r)) (sym (last_kept lasts last n r many low))
+    (subst (λ (l : List Placed). IsJournal files r g (last_of lasts r) l) (sym (one_other journal n r new (λ same. omega (arith, same, low)))) was))
+    (subst (λ (k : ℕ). IsJournal files n g k (and_one journal n new n)) (sym (get_or_push lasts last 0 n many))
+    (subst (λ (l : List Placed). IsJournal files n g last l) (sym (one_here journal n new)) here))
 
--- and its records are as they were read
-pub all_read_more : (old new : List (Vec PlacedRecord Global)) (records : Vec PlacedRecord Global) → new ≡ old ++ records ∷ [] → AreAllRead (map (λ j. j.items) old) → AllByRecursion (λ p. IsReadRecord p.what) records.items
-    → AreAllRead (map (λ j. j.items) new)
-all_read_more old new records is before here =
-    subst AreAllRead (sym (ap (map (λ (j : Vec PlacedRecord Global). j.items)) is ∙ map-append (λ (j : Vec PlacedRecord Global). j.items) old (records ∷ [])))
-    (all_both (λ ps. AllByRecursion (λ p. IsReadRecord p.what) ps) (map (λ (j : Vec PlacedRecord Global). j.items) old) (records.items ∷ []) before (here, tt))
+-- the generations of records are those of the files in which they stand
+abbrev IsInRange : Placed → Type 0
+IsInRange p = (1 ≤ p.generation) × (p.generation ≤ 65535)
+
+newer_range : (g : ℕ) (xs : List JournalRecord) → 1 ≤ g → g ≤ 65535 → AllByRecursion IsInRange (map (in_generation g) xs)
+newer_range g [] least most = tt
+newer_range g (x ∷ xs) least most = ((least, most), newer_range g xs least most)
+
+pub in_range : (files : Files) (r g last : ℕ) (journal : List Placed) → g ≤ 65535 → IsJournal files r g last journal → AllByRecursion IsInRange journal
+in_range files r zero last journal most h = subst (AllByRecursion IsInRange) (sym h.1) tt
+in_range files r (suc g) last journal most h =
+    subst (AllByRecursion IsInRange) (sym h.7)
+    (all_both IsInRange h.1 (map (in_generation (suc g)) h.2) (in_range files r g h.0 h.1 (omega (arith, most)) h.3) (newer_range (suc g) h.2 (omega arith) most))
+
+-- and their signs
+are_more : (files : Files) (n : ℕ) (signs : List (List PlacedSign)) (journal : ℕ → List Placed) (found : List PlacedSign) (new : List Placed) → length signs ≡ n → AreSigns files signs journal
+    → AreSignsOf files n found new → AllByRecursion IsInRange new → AreSigns files (signs ++ found ∷ []) (and_one journal n new)
+are_more files n signs journal found new many was here range =
+    let long : length (signs ++ found ∷ []) ≡ n + 1 = length-append signs (found ∷ []) ∙ ap (λ (k : ℕ). k + 1) many in
+    let Was = λ (r : ℕ). AreSignsOf files r (get_or signs r []) (journal r) in
+    let Is = λ (r : ℕ). AreSignsOf files r (get_or (signs ++ found ∷ []) r []) (and_one journal n new r) in
+    let Ranged = λ (l : List Placed). AllByRecursion IsInRange l in
+    record {
+      each = region_more Was Is n (length (signs ++ found ∷ [])) long (λ r low. was.each r (omega (arith, low, many)))
+          (λ r low is. subst (λ (ss : List PlacedSign). AreSignsOf files r ss (and_one journal n new r)) (sym (get_or_append_left signs (found ∷ []) [] r (omega (arith, many, low))))
+          (subst (λ (l : List Placed). AreSignsOf files r (get_or signs r []) l) (sym (one_other journal n r new (λ same. omega (arith, same, low)))) is))
+          (subst (λ (ss : List PlacedSign). AreSignsOf files n ss (and_one journal n new n)) (sym (get_or_push signs found [] n many))
+          (subst (λ (l : List Placed). AreSignsOf files n found l) (sym (one_here journal n new)) here));
+      generations = region_more (λ r. Ranged (journal r)) (λ r. Ranged (and_one journal n new r)) n (length (signs ++ found ∷ [])) long (λ r low. was.generations r (omega (arith, low, many)))
+          (λ r low is. subst Ranged (sym (one_other journal n r new (λ same. omega (arith, same, low)))) is)
+          (subst Ranged (sym (one_here journal n new)) range);
+      no_more = λ r past. one_other journal n r new (λ same. omega (arith, same, past, long)) ∙ was.no_more r (omega (arith, past, long, many));
+    }
 
 -- the region that is read now is the first whose journals aren't
-pub told_outside : (o n : Option Files) (regions region g : ℕ) (last : ℕ → ℕ) (journal : ℕ → List Placed) (file offset : ℕ) → region < regions → n ≡ o
-    → IfSome o (HaveJournals region g last journal) → IfSome n (λ files. IsOutsideGenerations files region g file offset) → IfSome o (λ files. AreOutside files regions g file offset)
-told_outside o n regions region g last journal file offset low same before out =
-    both_weak o (HaveJournals region g last journal) (λ files. IsOutsideGenerations files region g file offset) (λ files. AreOutside files regions g file offset) before
+pub told_outside : (o n : Option Files) (regions region g : ℕ) (last : ℕ → ℕ) (signs : List (List PlacedSign)) (file offset : ℕ) → region < regions → n ≡ o
+    → IfSome o (HaveSigns region g last signs) → IfSome n (λ files. IsOutsideGenerations files region g file offset) → IfSome o (λ files. AreOutside files regions g file offset)
+told_outside o n regions region g last signs file offset low same before out =
+    both_weak o (HaveSigns region g last signs) (λ files. IsOutsideGenerations files region g file offset) (λ files. AreOutside files regions g file offset) before
     (told_at o n (λ files. IsOutsideGenerations files region g file offset) same out)
-    (λ files was is. record { region = region; below = low; began = last; journal = journal; earlier = was; outside = is })
+    (λ files was is. record { region = region; below = low; began = last; journal = was.journal; earlier = was.have; outside = is })
 
 -- the region that is seen now is the first whose next generation has begun
 pub told_begun_early : (o n : Option Files) (regions region g file offset : ℕ) → region < regions → n ≡ o → (file ≡ journal_file g region) × (offset ≡ 0)
@@ -74,21 +110,57 @@ told_begun_early o n regions region g file offset low same place before out =
     (told_at o n (λ files. records (files (journal_file g region)) ≡ Some [] → ⊥) same out)
     (λ files was is. record { region = region; below = low; earlier = was; begun = is; file_is = place.0; offset_is = place.1 })
 
+-- with the records' places
+ordered_more : (n : ℕ) (signs : List (List PlacedSign)) (journal : ℕ → List Placed) (found : List PlacedSign) (new : List Placed) → length signs ≡ n → AreAllInOrder signs journal
+    → AreInOrder found new → AreAllInOrder (signs ++ found ∷ []) (and_one journal n new)
+ordered_more n signs journal found new many was here =
+    let long : length (signs ++ found ∷ []) ≡ n + 1 = length-append signs (found ∷ []) ∙ ap (λ (k : ℕ). k + 1) many in
+    let Was = λ (r : ℕ). AreInOrder (get_or signs r []) (journal r) in
+    let Is = λ (r : ℕ). AreInOrder (get_or (signs ++ found ∷ []) r []) (and_one journal n new r) in
+    region_more Was Is n (length (signs ++ found ∷ [])) long (λ r low. was r (omega (arith, low, many)))
+    (λ r low is. subst (λ (ss : List PlacedSign). AreInOrder ss (and_one journal n new r)) (sym (get_or_append_left signs (found ∷ []) [] r (omega (arith, many, low))))
+    (subst (λ (l : List Placed). AreInOrder (get_or signs r []) l) (sym (one_other journal n r new (λ same. omega (arith, same, low)))) is))
+    (subst (λ (ss : List PlacedSign). AreInOrder ss (and_one journal n new n)) (sym (get_or_push signs found [] n many))
+    (subst (λ (l : List Placed). AreInOrder found l) (sym (one_here journal n new)) here))
+
+-- no region yet
+pub none_read : {J : Type 0} (items : J → List PlacedSign) (o : Option Files) (g : ℕ) (lasts : List ℕ) (js : List J) → js ≡ [] → IfSome o (HaveSigns 0 g (last_of lasts) (map items js))
+none_read items o g lasts js none =
+    let empty : length (map items js) ≡ 0 = length-map js items ∙ ap length none in
+    all_told o (HaveSigns 0 g (last_of lasts) (map items js)) (λ files. record {
+      journal = λ r. [];
+      have = λ r low. absurd (omega (arith, low));
+      are = record {
+        each = λ r low. absurd (omega (arith, low, empty));
+        generations = λ r low. absurd (omega (arith, low, empty));
+        no_more = λ r past. refl;
+      };
+      ordered = λ r low. absurd (omega (arith, low, empty));
+    })
+
+pub none_began : (lasts : List ℕ) (g r : ℕ) → lasts ≡ [] → last_of lasts r ≤ g
+none_began lasts g r none = subst (λ (l : List ℕ). last_of l r ≤ g) (sym none) (omega arith)
+
 -- the same of lists in vectors, as the disk tells it
-pub told_more : {J : Type 0} (items : J → List PlacedRecord) (o n : Option Files) (region next g : ℕ) (lasts lasts2 : List ℕ) (js js2 : List J) (last : ℕ) (j : J) → next ≡ region + 1 → n ≡ o
+pub told_more : {J : Type 0} (items : J → List PlacedSign) (o n : Option Files) (region next g : ℕ) (lasts lasts2 : List ℕ) (js js2 : List J) (last : ℕ) (j : J) → g ≤ 65535 → next ≡ region + 1 → n ≡ o
     → length lasts ≡ region → length js ≡ region → lasts2 ≡ lasts ++ last ∷ [] → js2 ≡ js ++ j ∷ []
-    → IfSome o (HaveJournals region g (last_of lasts) (journal_of (map items js))) → IfSome n (λ files. IsJournal files region g last (map placed_value (items j)))
-    → IfSome o (HaveJournals next g (last_of lasts2) (journal_of (map items js2)))
-told_more items o n region next g lasts lasts2 js js2 last j more same many_last many pushed_last pushed before here =
-    let Was = HaveJournals region g (last_of lasts) (journal_of (map items js)) in
-    let Here = λ (files : Files). IsJournal files region g last (map placed_value (items j)) in
-    let Is = HaveJournals next g (last_of lasts2) (journal_of (map items js2)) in
+    → IfSome o (HaveSigns region g (last_of lasts) (map items js)) → IfSome n (λ files. (journal : List Placed) × IsJournal files region g last journal × AreSignsOf files region (items j) journal × AreInOrder (items j) journal)
+    → IfSome o (HaveSigns next g (last_of lasts2) (map items js2))
+told_more items o n region next g lasts lasts2 js js2 last j most more same many_last many pushed_last pushed before here =
+    let Was = HaveSigns region g (last_of lasts) (map items js) in
+    let Here = λ (files : Files). (journal : List Placed) × IsJournal files region g last journal × AreSignsOf files region (items j) journal × AreInOrder (items j) journal in
+    let Is = HaveSigns next g (last_of lasts2) (map items js2) in
     let lists : map items js ++ items j ∷ [] ≡ map items js2 = sym (ap (map items) pushed ∙ map-append items js (j ∷ [])) in
     both_weak o Was Here Is before (told_at o n Here same here)
     (λ files was is.
-    subst (λ (l : List ℕ). HaveJournals next g (last_of l) (journal_of (map items js2)) files) (sym pushed_last)
-    (subst (λ (l : List (List PlacedRecord)). HaveJournals next g (last_of (lasts ++ last ∷ [])) (journal_of l) files) lists
-    (have_more files region next g lasts (map items js) last (items j) more many_last (length-map js items ∙ many) was is)))
+    subst (λ (l : List ℕ). HaveSigns next g (last_of l) (map items js2) files) (sym pushed_last)
+    (subst (λ (l : List (List PlacedSign)). HaveSigns next g (last_of (lasts ++ last ∷ [])) l files) lists
+    (record {
+      journal = and_one was.journal region is.0;
+      have = have_more files region next g lasts was.journal last is.0 more many_last was.have is.1;
+      are = are_more files region (map items js) was.journal (items j) is.0 (length-map js items ∙ many) was.are is.2 (in_range files region g last is.0 most is.1);
+      ordered = ordered_more region (map items js) was.journal (items j) is.0 (length-map js items ∙ many) was.ordered is.3;
+    })))
 
 pub one_longer : {X : Type 0} (old new : List X) (x : X) (n : ℕ) → new ≡ old ++ x ∷ [] → length old ≡ n → length new ≡ n + 1
 one_longer old new x n is many = ap length is ∙ length-append old (x ∷ []) ∙ ap (λ k. k + 1) many

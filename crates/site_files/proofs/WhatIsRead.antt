@@ -1,6 +1,5 @@
 -- Reading a site, beside what its files hold.
-use Rattle.std.proofs.Common.{◌≡◌, ℕ, suc, ◌≤◌, ◌<◌, List, [], ◌∷◌, length, map, Option, Some, None, IfSome, sym, ◌∙◌, ap, subst, arith}
-use Rattle.std.proofs.lemmas.List.{get_or_past}
+use Rattle.std.proofs.Common.{◌≡◌, ℕ, suc, ◌≤◌, ◌<◌, List, [], ◌∷◌, length, Option, Some, None, IfSome, sym, ◌∙◌, ap, subst, arith}
 use Rattle.std.specs.List.{AllByRecursion}
 use Rattle.disk_defs.specs.Disk.{Files, View, Image, IsLawful, IsDurable, AtEachMoment}
 use Rattle.disk_defs.specs.Gates.{records}
@@ -14,11 +13,11 @@ use Rattle.journal_defs.specs.Sequence.{Placed}
 use Rattle.journal_defs.specs.Stands.{IsInstance, IsJournal}
 use Rattle.journal_laws.proofs.Readings.{holds_one, instance_body}
 use Rattle.jnl_file.specs.Generations.{AreDurable}
-use Rattle.jnl_record.specs.declared.placed.PlacedRecord.{PlacedRecord}
-use Rattle.jnl_record.specs.Values.{placed_value}
-use Rattle.mupip_recover.specs.Site.{journal_of}
+use Rattle.jnl_index.specs.declared.placed.PlacedSign.{PlacedSign}
+use Rattle.entry_index.specs.Among.{AreAllInOrder}
+use Rattle.entry_index.specs.Indexes.{AreSigns}
 use Rattle.site_files.specs.Loading.{MayBeOpened, AreRead, WasRead, IsDirectory}
-use Rattle.site_files.specs.Reading.{AreAllDurable, AreUnbegunDurable}
+use Rattle.site_files.specs.Reading.{HaveSigns, AreAllDurable, AreUnbegunDurable}
 use Rattle.site_defs.specs.Outside.{HaveJournals, AreUnbegun}
 use Rattle.site_files.proofs.RegionsRead.{durable_kept}
 
@@ -99,23 +98,26 @@ may_be_opened rs d last g order form directory fits newest low began = record {
   earlier = λ r. let le = began r in omega (arith, newest, le);
 }
 
-pub none_past : (js : List (List PlacedRecord)) (n r : ℕ) → length js ≡ n → n ≤ r → journal_of js r ≡ []
-none_past js n r many high = ap (map placed_value) (get_or_past js r [] (omega (arith, many, high)))
-
 -- what the steps of reading found, together
-pub was_read : (o : Option Files) (v w x : View) (rs : List InstanceRecord) (last : ℕ → ℕ) (js : List (List PlacedRecord)) (n g next : ℕ) → n ≡ length (regions rs) → g ≡ generation rs → next ≡ suc (generation rs) → length js ≡ n
+pub was_read : (o : Option Files) (v w x : View) (rs : List InstanceRecord) (last : ℕ → ℕ) (signs : List (List PlacedSign)) (n g next : ℕ) → n ≡ length (regions rs) → g ≡ generation rs → next ≡ suc (generation rs) → length signs ≡ n
     → IsLawful w → IsLawful x → AtEachMoment v w (Image v) → AtEachMoment w x (Image w) → IfSome o (λ files. IsInstance (files INSTANCE) rs) → IfSome o (λ files. IsDurable v INSTANCE (files INSTANCE))
-    → IfSome o (HaveJournals n g last (journal_of js)) → IfSome o (AreAllDurable w n g) → IfSome o (AreUnbegun n next) → IfSome o (AreUnbegunDurable x n next) → IfSome o (WasRead x rs last (journal_of js))
-was_read None v w x rs last js n g next many newest drawn all lawful_w lawful_x first second is durable have kept unbegun kept_next = tt
-was_read (Some files) v w x rs last js n g next many newest drawn all lawful_w lawful_x first second is durable have kept unbegun kept_next = record {
-  holds = record {
-    instance = is;
-    older = λ r here. subst (λ (k : ℕ). IsJournal files r k (last r) (journal_of js r)) newest (have r (omega (arith, here, many)));
-    no_more = λ r high. none_past js n r all (omega (arith, high, many));
-    next = λ r here. subst (λ (k : ℕ). records (files (journal_file k r)) ≡ Some []) drawn (unbegun r (omega (arith, here, many)));
-  };
-  instance = durable_kept w x INSTANCE (files INSTANCE) lawful_x second (durable_kept v w INSTANCE (files INSTANCE) lawful_w first durable);
-  journals = λ r here. subst (λ (k : ℕ). AreDurable x r k files) newest
-      (λ h least most. durable_kept w x (journal_file h r) (files (journal_file h r)) lawful_x second (kept r (omega (arith, here, many)) h least most));
-  next = λ r here. subst (λ (k : ℕ). IsDurable x (journal_file k r) (files (journal_file k r))) drawn (kept_next r (omega (arith, here, many)));
-}
+    → IfSome o (HaveSigns n g last signs) → IfSome o (AreAllDurable w n g) → IfSome o (AreUnbegun n next) → IfSome o (AreUnbegunDurable x n next)
+    → IfSome o (λ files. (journal : ℕ → List Placed) × WasRead x rs last journal files × AreSigns files signs journal × AreAllInOrder signs journal)
+was_read None v w x rs last signs n g next many newest drawn all lawful_w lawful_x first second is durable have kept unbegun kept_next = tt
+was_read (Some files) v w x rs last signs n g next many newest drawn all lawful_w lawful_x first second is durable have kept unbegun kept_next = (
+  have.journal,
+  record {
+    holds = record {
+      instance = is;
+      older = λ r here. subst (λ (k : ℕ). IsJournal files r k (last r) (have.journal r)) newest (have.have r (omega (arith, here, many)));
+      no_more = λ r high. have.are.no_more r (omega (arith, high, many, all));
+      next = λ r here. subst (λ (k : ℕ). records (files (journal_file k r)) ≡ Some []) drawn (unbegun r (omega (arith, here, many)));
+    };
+    instance = durable_kept w x INSTANCE (files INSTANCE) lawful_x second (durable_kept v w INSTANCE (files INSTANCE) lawful_w first durable);
+    journals = λ r here. subst (λ (k : ℕ). AreDurable x r k files) newest
+        (λ h least most. durable_kept w x (journal_file h r) (files (journal_file h r)) lawful_x second (kept r (omega (arith, here, many)) h least most));
+    next = λ r here. subst (λ (k : ℕ). IsDurable x (journal_file k r) (files (journal_file k r))) drawn (kept_next r (omega (arith, here, many)));
+  },
+  have.are,
+  have.ordered,
+)

@@ -1,3 +1,4 @@
 pub mod Errors
 pub mod Loading
+pub mod Past
 pub mod Reading

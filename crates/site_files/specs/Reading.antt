@@ -5,15 +5,20 @@ use Rattle.disk_defs.specs.Disk.{Files, View, IsDurable}
 use Rattle.journal_defs.specs.Numbers.{journal_file}
 use Rattle.journal_defs.specs.Directory.{Pattern, patterns}
 use Rattle.journal_defs.specs.Instance.{regions}
-use Rattle.journal_defs.specs.Sequence.{Records}
+use Rattle.journal_defs.specs.Sequence.{Placed, Records}
 use Rattle.journal_defs.specs.Stands.{AreRecords}
-use Rattle.jnl_record.specs.declared.placed.PlacedRecord.{PlacedRecord}
-use Rattle.jnl_file.specs.Reading.{IsReadRecord}
 use Rattle.jnl_file.specs.Generations.{AreDurable}
+use Rattle.jnl_index.specs.declared.placed.PlacedSign.{PlacedSign}
+use Rattle.entry_index.specs.Among.{AreAllInOrder}
+use Rattle.entry_index.specs.Indexes.{AreSigns}
+use Rattle.site_defs.specs.Outside.{HaveJournals}
 
--- each record of the regions is as it was read
-abbrev pub AreAllRead : List (List PlacedRecord) → Type 0
-AreAllRead journals = AllByRecursion (λ ps. AllByRecursion (λ p. IsReadRecord p.what) ps) journals
+-- The first so many regions have records over the generations up to g, and these are their signs, with the records' places.
+pub record HaveSigns (regions g : ℕ) (last : ℕ → ℕ) (signs : List (List PlacedSign)) (files : Files) : Type 0 where
+  pub journal : ℕ → List Placed
+  pub have : HaveJournals regions g last journal files
+  pub are : AreSigns files signs journal
+  pub ordered : AreAllInOrder signs journal
 
 -- the files of the first so many regions up to generation g are on the disk for good
 abbrev pub AreAllDurable : View → ℕ → ℕ → Files → Type 0

@@ -1,8 +1,8 @@
 //! The files of a site: its instance file, and a journal for each generation of each of its regions.
 //!
-//! Opening a site begins here: its files are synced and read, what they stand for is taken into memory, and the next generation is
-//! drawn and begun in each region, with the text of what was broken beside it. Whatever a crash leaves of that, the files stand for the
-//! same sequence.
+//! Opening a site begins here: its files are synced and read, each record leaves its sign and its place, and of these an index of the
+//! entries is made. Then the next generation is drawn and begun in each region, with the text of what was broken beside it. Whatever a
+//! crash leaves of that, the files stand for the same sequence.
 #![tactic(auto)]
 
 mod cuts;
@@ -11,6 +11,7 @@ mod error;
 mod finding;
 mod laws;
 mod mapping;
+mod past;
 mod reading;
 mod remembering;
 mod texts;

@@ -9,17 +9,18 @@ ghost use Rattle.journal_defs.specs.Directory.{Pattern, patterns};
 ghost use Rattle.journal_defs.specs.Numbers.{INSTANCE, journal_file};
 ghost use Rattle.journal_defs.specs.Instance as defs;
 ghost use Rattle.journal_defs.specs.Instance.{generation};
-ghost use Rattle.journal_defs.specs.Sequence.{Placed};
+ghost use Rattle.journal_defs.specs.Sequence.{Placed, Records};
 ghost use Rattle.journal_defs.specs.Stands.{IsInstance, IsJournal, AreRecords};
-ghost use Rattle.jnl_file.specs.Reading.{IsReadRecord};
 ghost use Rattle.jnl_file.specs.Generations.{AreDurable};
 ghost use Rattle.site_defs.specs.OutsideJournal.{IsOutsideGenerations};
-ghost use Rattle.jnl_record.specs.Values.{placed_value};
+ghost use Rattle.jnl_index.specs.Order as orders;
+ghost use Rattle.jnl_index.specs.Places.{AreSignsOf};
+ghost use Rattle.entry_index.specs.Among.{AreAllInOrder};
+ghost use Rattle.entry_index.specs.Indexes.{AreSigns};
 ghost use Rattle.site_files.specs.Errors.{generations_error};
 ghost use Rattle.site_files.specs.Loading.{MayBeOpened, AreRead, WasRead, IsDirectory, last_of};
 ghost use Rattle.site_defs.specs.Outside.{AreOutside, HaveBegun, IsOutsideRecords, IsOutsideSite, HaveJournals, AreUnbegun};
-ghost use Rattle.site_files.specs.Reading.{AreAllRead, AreAllDurable, AreUnbegunDurable, HoldNoSite};
-ghost use Rattle.mupip_recover.specs.Site.{journal_of, site_records};
+ghost use Rattle.site_files.specs.Reading.{HaveSigns, AreAllDurable, AreUnbegunDurable, HoldNoSite};
 
 use crate::error::FilesError;
 use crate::finding::{generation_in, read_instance};
@@ -27,8 +28,8 @@ use crate::mapping::directory_of;
 use global_dir::Directory;
 use gvn_key::NoMemory;
 use instance_file::{InstanceLog, InstanceRecord};
-use jnl_file::{Generations, GenerationsError, is_unbegun, journal_file, read_generations};
-use jnl_record::PlacedRecord;
+use jnl_file::{GenerationsError, is_unbegun, journal_file};
+use jnl_index::{PlacedSign, RegionSigns, index_generations};
 use repl_disk::Disk;
 use std::alloc::Global;
 
@@ -42,10 +43,11 @@ pub struct ReadSite {
     pub log: InstanceLog,
     /// Which region each name belongs to.
     pub directory: Directory,
-    /// Its journals by region, each over all generations.
-    pub journals: Vec<Vec<PlacedRecord>>,
+    /// What the records of its journals say and where they stand, by region, each over all generations.
+    pub signs: Vec<Vec<PlacedSign>>,
     /// The last generation that began in each region, or 0.
     pub last_began: Vec<u32>,
+    pub ghost few: { length signs.items ≤ 8 },
 }
 
 /// An error of the journals, on a disk with this count of faults.
@@ -59,17 +61,16 @@ fn in_journals(error: GenerationsError, fault: u64) -> FilesError
     }
 }
 
-/// Syncs and reads a region's journals up to a generation.
-fn read_journals<D: Disk>(
+/// Syncs and reads a region's journals up to a generation, by their signs.
+fn index_journals<D: Disk>(
     alloc: Global,
     disk: &mut D,
     region: u8,
     last: u32,
-) -> Result<Generations, FilesError>
+) -> Result<RegionSigns, FilesError>
     requires region { region < 8 }
     requires last { last ≤ 65535 }
-    ensures read { IfOk result (λ made. IfSome (D.disk disk.old).content (λ files. IsJournal files region last made.last_began (map placed_value made.records.items))) }
-    ensures form { IfOk result (λ made. AllByRecursion (λ p. IsReadRecord p.what) made.records.items) }
+    ensures read { IfOk result (λ made. IfSome (D.disk disk.old).content (λ files. (journal : List Placed) × IsJournal files region last made.last_began journal × AreSignsOf files region made.signs.items journal × orders.AreInOrder made.signs.items journal)) }
     ensures began { IfOk result (λ made. made.last_began ≤ last) }
     ensures durable { OnOk result (IfSome (D.disk disk.old).content (AreDurable (D.disk disk.new) region last)) }
     ensures place { (file offset : ℕ) → IsErrOf result (FilesError.NotAFile file offset) → IfSome (D.disk disk.old).content (λ files. IsOutsideGenerations files region last file offset) }
@@ -82,7 +83,7 @@ fn read_journals<D: Disk>(
     ensures cause { (fault : ℕ) → IsErrOf result (FilesError.Failed fault) → Rose (D.disk disk.old).faults (D.disk disk.new).faults }
     ensures causes { OnErr result (((fault : ℕ) × IsErrOf result (FilesError.Failed fault)) ⊎ ((file : ℕ) × (offset : ℕ) × IsErrOf result (FilesError.NotAFile file offset)) ⊎ IsErrOf result FilesError.NoMemory) }
 {
-    match read_generations(alloc, disk, region, last) {
+    match index_generations(alloc, disk, region, last) {
         Ok(made) => Ok(made),
         Err(error) => Err(in_journals(error, disk.faults())),
     }
@@ -90,14 +91,14 @@ fn read_journals<D: Disk>(
 
 /// Adds what was read of a region.
 fn add_read(
-    journals: &mut Vec<Vec<PlacedRecord>>,
+    signs: &mut Vec<Vec<PlacedSign>>,
     last_began: &mut Vec<u32>,
-    read: Generations,
+    read: RegionSigns,
 ) -> Result<(), NoMemory>
-    ensures journals { OnOk result (journals.new.items ≡ journals.old.items ++ read.records ∷ []) }
+    ensures signs { OnOk result (signs.new.items ≡ signs.old.items ++ read.signs ∷ []) }
     ensures last_began { OnOk result (last_began.new.items ≡ last_began.old.items ++ read.last_began ∷ []) }
 {
-    journals.push(read.records)?;
+    signs.push(read.signs)?;
     last_began.push(read.last_began)?;
     Ok(())
 }
@@ -105,8 +106,8 @@ fn add_read(
 /// What was read of regions.
 #[derive(Drop)]
 struct ReadRegions {
-    /// Their journals, each over its generations.
-    journals: Vec<Vec<PlacedRecord>>,
+    /// What the records of their journals say, each over its generations.
+    signs: Vec<Vec<PlacedSign>>,
     /// The last generation that began in each, or 0.
     last_began: Vec<u32>,
 }
@@ -120,9 +121,8 @@ fn read_regions<D: Disk>(
 ) -> Result<ReadRegions, FilesError>
     requires regions { regions ≤ 8 }
     requires last { last ≤ 65535 }
-    ensures read { IfOk result (λ made. IfSome (D.disk disk.old).content (HaveJournals regions last (last_of made.last_began.items) (journal_of (map (λ j. j.items) made.journals.items)))) }
-    ensures forms { IfOk result (λ made. AreAllRead (map (λ j. j.items) made.journals.items)) }
-    ensures many { IfOk result (λ made. length made.journals.items ≡ regions) }
+    ensures read { IfOk result (λ made. IfSome (D.disk disk.old).content (HaveSigns regions last (last_of made.last_began.items) (map (λ s. s.items) made.signs.items))) }
+    ensures many { IfOk result (λ made. length made.signs.items ≡ regions) }
     ensures many_last { IfOk result (λ made. length made.last_began.items ≡ regions) }
     ensures began { IfOk result (λ made. (r : ℕ) → last_of made.last_began.items r ≤ last) }
     ensures durable { OnOk result (IfSome (D.disk disk.old).content (AreAllDurable (D.disk disk.new) regions last)) }
@@ -136,16 +136,13 @@ fn read_regions<D: Disk>(
     ensures cause { (fault : ℕ) → IsErrOf result (FilesError.Failed fault) → Rose (D.disk disk.old).faults (D.disk disk.new).faults }
     ensures causes { OnErr result (((fault : ℕ) × IsErrOf result (FilesError.Failed fault)) ⊎ ((file : ℕ) × (offset : ℕ) × IsErrOf result (FilesError.NotAFile file offset)) ⊎ IsErrOf result FilesError.NoMemory) }
 {
-    let mut journals = Vec::new(alloc);
+    let mut signs = Vec::new(alloc);
     let mut last_began = Vec::new(alloc);
     for region in 0..regions {
-        let read = read_journals(alloc, disk, region, last)?;
-        add_read(&mut journals, &mut last_began, read)?;
+        let read = index_journals(alloc, disk, region, last)?;
+        add_read(&mut signs, &mut last_began, read)?;
     }
-    Ok(ReadRegions {
-        journals,
-        last_began,
-    })
+    Ok(ReadRegions { signs, last_began })
 }
 
 /// Syncs the journal of a generation that isn't drawn, and sees that it has no open record.
@@ -258,14 +255,15 @@ fn lay_out(alloc: Global, records: &[InstanceRecord]) -> Result<Plan, FilesError
     Ok(plan)
 }
 
-/// Syncs and reads the instance file and the journals of a site, however many generations were drawn. It writes nothing.
+/// Syncs and reads the instance file and the journals of a site, however many generations were drawn. It writes nothing, and keeps of each
+/// record what it says and where it stands.
 ///
 /// # Errors
 /// `NotAFile` exactly where the files hold no site's records, with the first file that is outside the format and the place of
 /// what can't stand there.
 pub fn read_records<D: Disk>(alloc: Global, disk: &mut D) -> Result<ReadSite, FilesError>
-    ensures held { IfOk result (λ read. IfSome (D.disk disk.old).content (λ files. AreRecords files (site_records read.log.records (map (λ j. j.items) read.journals.items)))) }
-    ensures forms { IfOk result (λ read. AreAllRead (map (λ j. j.items) read.journals.items)) }
+    ensures held { IfOk result (λ read. IfSome (D.disk disk.old).content (λ files. (u : Records) × (u.instance ≡ read.log.records) × AreRecords files u × AreSigns files (map (λ s. s.items) read.signs.items) u.journal)) }
+    ensures signs { IfOk result (λ read. length read.signs.items ≡ length (defs.regions read.log.records)) }
     ensures order { IfOk result (λ read. AreInOrder read.log.records) }
     ensures place { (file offset : ℕ) → IsErrOf result (FilesError.NotAFile file offset) → IfSome (D.disk disk.old).content (λ files. IsOutsideRecords files file offset) }
     ensures outside { (file offset : ℕ) → IsErrOf result (FilesError.NotAFile file offset) → IfSome (D.disk disk.old).content HoldNoSite }
@@ -283,13 +281,13 @@ pub fn read_records<D: Disk>(alloc: Global, disk: &mut D) -> Result<ReadSite, Fi
     Ok(ReadSite {
         log,
         directory: plan.directory,
-        journals: found.journals,
+        signs: found.signs,
         last_began: found.last_began,
     })
 }
 
 /// Syncs and reads the instance file and the journals of a site that is to be opened, of which a generation is left. It writes
-/// nothing.
+/// nothing, and keeps of each record what it says and where it stands.
 ///
 /// # Errors
 /// `GenLimit` where no generation is left; `NotAFile` with the first file that is outside the format and the place of what
@@ -300,8 +298,8 @@ pub fn read_site<D: Disk>(alloc: Global, disk: &mut D) -> Result<ReadSite, Files
     ensures counted { IfOk result (λ read. length read.last_began.items ≡ length (defs.regions read.log.records)) }
     // another generation than the next one is left
     ensures low { IfOk result (λ read. generation read.log.records < 65534) }
-    ensures read { IfOk result (λ read. IfSome (D.disk disk.old).content (WasRead (D.disk disk.new) read.log.records (last_of read.last_began.items) (journal_of (map (λ j. j.items) read.journals.items)))) }
-    ensures forms { IfOk result (λ read. AreAllRead (map (λ j. j.items) read.journals.items)) }
+    ensures read { IfOk result (λ read. IfSome (D.disk disk.old).content (λ files. (journal : ℕ → List Placed) × WasRead (D.disk disk.new) read.log.records (last_of read.last_began.items) journal files × AreSigns files (map (λ s. s.items) read.signs.items) journal × AreAllInOrder (map (λ s. s.items) read.signs.items) journal)) }
+    ensures signs { IfOk result (λ read. length read.signs.items ≡ length (defs.regions read.log.records)) }
     ensures limit { IsErrOf result FilesError.GenLimit → IfSome (D.disk disk.old).content (λ files. (rs : List defs.InstanceRecord) → IsInstance (files INSTANCE) rs → 65534 ≤ generation rs) }
     ensures limit_told { IsErrOf result FilesError.GenLimit → IfSome (D.disk disk.old).content (λ files. (rs : List defs.InstanceRecord) × IsInstance (files INSTANCE) rs × (65534 ≤ generation rs)) }
     ensures place { (file offset : ℕ) → IsErrOf result (FilesError.NotAFile file offset) → IfSome (D.disk disk.old).content (λ files. IsOutsideSite files file offset) }
@@ -323,7 +321,7 @@ pub fn read_site<D: Disk>(alloc: Global, disk: &mut D) -> Result<ReadSite, Files
     Ok(ReadSite {
         log,
         directory: plan.directory,
-        journals: read.journals,
+        signs: read.signs,
         last_began: read.last_began,
     })
 }

@@ -36,6 +36,7 @@ pub mod Patterns
 pub mod Mapped
 pub mod Found
 pub mod Printed
+pub mod Extracted
 pub mod Leaving
 pub mod Refused
 pub mod Moded

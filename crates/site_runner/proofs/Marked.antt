@@ -9,7 +9,7 @@ use Rattle.disk_defs.specs.Disk.{Files, View, Image, IsLawful, AtEachMoment, Ros
 use Rattle.site_store.specs.declared.site.OpenSite.{OpenSite}
 use Rattle.journal_defs.specs.Instance.{generation, regions}
 use Rattle.site_store.specs.Needing.{NoneNeeds}
-use Rattle.site_store.specs.Site.{IsOpen}
+use Rattle.site_store.specs.Site.{IsOpen, count_of}
 use Rattle.site_store.proofs.Standing.{reads_of}
 use Rattle.repl_section.specs.declared.reign.Reign.{Reign}
 use Rattle.repl_section.specs.Reigns.{stamp_in, stamp_of}
@@ -195,7 +195,7 @@ mark_faulted leftovers word v w s r k before now was e m count rose t p h =
 
 pub marks_at : (word : List ℕ) (v w : View) (nothing : NothingIsLeft w) (s : Site) (r new : Reign) (count : ℕ) (before now : List ℕ) → IsLawful w → s.state ≡ Primary r → new.site.stamp ≡ r.site.stamp → new.serials ≡ r.serials → w.simulated ≡ v.simulated → v.faults ≤ w.faults
     → ((told : Bool) (c : Contents) → IsOpen v told c (length c.sequence) r.site → IsOpen w told (marked c) (length c.sequence) new.site)
-    → ((c : Contents) → IsOpen v true c (length c.sequence) r.site → (f : Files) → Image w f → NoneNeeds (length c.sequence) f) → count ≡ length r.site.entries → now ≡ before ++ line s.name (word ++ decimal count)
+    → ((c : Contents) → IsOpen v true c (length c.sequence) r.site → (f : Files) → Image w f → NoneNeeds (length c.sequence) f) → count ≡ count_of r.site → now ≡ before ++ line s.name (word ++ decimal count)
     → ExecutesAt (marking word s.name) v s w (in_state s (Primary new)) before now true
 marks_at word v w nothing s r new count before now law e stamped serials same later f none counts t p h =
     let was = reigns_at v s r p e h in

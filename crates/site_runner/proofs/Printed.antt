@@ -1,28 +1,25 @@
 -- TYPE at a place.
 use Rattle.std.proofs.Common.{◌≡◌, ◌≢◌, ℕ, ◌-◌, ◌≤◌, ◌==◌, Bool, true, false, List, [], ◌∷◌, ◌++◌, length, get_or, None, Some, refl, sym, ◌∙◌, ap, subst, arith, inl, inr, if◌then◌else◌}
-use Rattle.std.specs.Prelude.{◌⊎◌, Option, codes, IfSome, IsSomeAnd}
+use Rattle.std.specs.Prelude.{◌⊎◌, Option, codes, IfSome}
 use Rattle.std.specs.Fmt.{decimal}
 use Rattle.std.proofs.lemmas.Bool.{ne_eqb, eqb-true}
 use Rattle.disk_defs.specs.Disk as disk
-use Rattle.disk_defs.specs.Disk.{Files, View, Image, Rose}
+use Rattle.disk_defs.specs.Disk.{Files, View, Rose}
 use Rattle.journal_defs.specs.Numbers.{lost_file, broken_file}
 use Rattle.world_defs.specs.World as world
-use Rattle.world_defs.specs.World.{Place, has_failed_on, IfShown}
+use Rattle.world_defs.specs.World.{Place, IfShown}
 use Rattle.command_defs.specs.Commands.{Name}
 use Rattle.site_defs.specs.Contents.{Contents, Leftover}
 use Rattle.world_defs.specs.Answers.{NoFile, Stopped, Refusal, Refused, Typed, line, Cause}
 use Rattle.world_defs.specs.Row.{refused_with, in_state, stopped}
-use Rattle.world_defs.specs.Changes.{in_new_state}
 use Rattle.world_defs.specs.rows.Print.{TypedBy, typed, file_typed, no_file, print}
-use Rattle.site_defs.specs.Stands.{IsSite, HasLeft, Reads}
-use Rattle.site_runner.specs.declared.slot.State.{State}
-use Rattle.site_runner.specs.declared.slot.State.TheVariants.{Down, Primary, Failed}
+use Rattle.site_defs.specs.Stands.{IsSite, HasLeft}
+use Rattle.site_runner.specs.declared.slot.State.TheVariants.{Failed}
 use Rattle.site_runner.specs.declared.slot.Site.{Site}
-use Rattle.site_runner.specs.Sites.{state_value, HoldsState}
+use Rattle.site_runner.specs.Sites.{state_value}
 use Rattle.site_runner.specs.Steps.{IsAt, ExecutesAt, IsCutAt}
-use Rattle.site_runner.proofs.Fused.{state_read}
-use Rattle.site_runner.proofs.Ats.{comes_refused, comes_may_refuse, comes_fault, comes_typed, refused_late, none_refused, state_at, is_true_or_false, some_both, reads_site, stand_same, left_old, still_by, failed_by, failed_stand, shown_same, by_shown, if_some}
-use Rattle.site_runner.proofs.Seen.{counted, kept_counted}
+use Rattle.site_runner.proofs.Ats.{comes_refused, comes_may_refuse, comes_typed, refused_late, none_refused, state_at, is_true_or_false, some_both, reads_site, by_shown, if_some}
+use Rattle.site_runner.proofs.Seen.{counted, kept_counted, read_at, read_faulted, read_cut}
 
 pub print_stopped : (lost : Bool) (g : ℕ) (v : View) (s : Site) (cause : Cause) (p : Place) → stopped (state_value s.state) ≡ Some cause → IsAt v s p → (print lost g s.name p).early ≡ refused_with s.name (Some cause)
 print_stopped lost g v s cause p e h = ap (refused_with s.name) (state_at stopped v s p h ∙ e)
@@ -36,28 +33,6 @@ print_early name lost g (world.Failed k) cause p e = let same : Stopped k ≡ ca
     never : (x : Option Files) → (cause ≡ NoFile → ⊥) → IfSome x (λ f. cause ≡ NoFile → f (file_typed lost g) ≡ [])
     never None f = tt
     never (Some files) f = λ is. absurd (f is)
-
--- A site over a disk that was only read.
-
-state_counted : (w : View) (s : State) (p : Place) (n : ℕ) → HoldsState w s p → HoldsState w s (counted p n)
-state_counted w Down p n h = tt
-state_counted w (Primary r) p n h = record { reigns = h.reigns; settled = h.settled; left = h.left; standings = h.standings }
-state_counted w (Failed k) p n h = tt
-
-read_at : (v w : View) (s : Site) (p : Place) → disk.Reads v w → IsAt v s p → IsAt w s (counted p w.faults)
-read_at v w s p r h = record {
-  disk = record {
-    told = λ sure. subst (λ (x : Option Files). IsSomeAnd x (λ files. Reads files p.now p.left)) (sym r.content) (h.disk.told sure);
-    images = λ sure f i. let k = r.passes.images f i in h.disk.images sure f (subst (Image v) (sym k.2) k.1);
-    standings = λ sure. still_by (has_failed_on p.site) v w p.standings (λ f i. let k = r.passes.images f i in subst (Image v) (sym k.2) k.1) (h.disk.standings sure);
-    shown = shown_same p.shown v.content w.content r.content h.disk.shown;
-    known = λ sure. h.disk.known sure ∙ sym r.content;
-    faults = refl;
-    simulated = r.passes.simulated ∙ h.disk.simulated;
-  };
-  site = h.site;
-  held = record { made = λ sure. record { now = (h.held.made sure).now; outcomes = (h.held.made sure).outcomes }; state = state_counted w s.state p w.faults (state_read v w s.state p r h.held.state) };
-}
 
 -- The tests of a site that isn't stopped.
 
@@ -137,34 +112,10 @@ printed lost typing g v w s old bytes before now r later up some most none text 
 -- a call failed
 pub print_fault : (lost : Bool) (g : ℕ) (v w : View) (s : Site) (k : ℕ) (before now : List ℕ) → disk.Reads v w → stopped (state_value s.state) ≡ None → k ≡ w.faults → Rose v.faults w.faults
     → now ≡ before ++ line s.name (codes "DISKFAULT " ++ decimal k) → ExecutesAt (print lost g s.name) v s w (record { name = s.name; state = Failed k }) before now false
-print_fault lost g v w s k before now r up count rose t p h =
-    let a = read_at v w s p r h in
-    let state = in_new_state (world.Failed k) p.site in
-    comes_fault
-    k
-    (record { site = state; told = p.told; now = p.now; left = p.left; outcomes = p.outcomes; standings = p.standings; shown = p.shown; faults = w.faults; simulated = p.simulated })
-    (ap (refused_with s.name) (up_at v s p h up))
-    (record {
-      site = refl;
-      now = refl;
-      left = refl;
-      known = record { told = refl; outcomes = λ o m. m; standings = λ t. stand_same p.standings };
-      shown = refl;
-      count = sym count;
-      rose = subst (λ (x : ℕ). Rose p.faults x) (sym count) (subst (λ (x : ℕ). Rose x w.faults) h.disk.faults rose);
-      simulated = refl;
-    })
-    (record {
-      disk = record { told = a.disk.told; images = λ sure f i. let o = a.disk.images sure f i in (o.0, o.1, failed_by k p.site f o.0 o.2); standings = λ sure. failed_stand k p.site w p.standings (a.disk.standings sure); shown = a.disk.shown; known = a.disk.known; faults = refl; simulated = a.disk.simulated };
-      site = ap (in_new_state (world.Failed k)) h.site;
-      held = record { made = λ sure. record { now = (h.held.made sure).now; outcomes = (h.held.made sure).outcomes }; state = tt };
-    })
-    t
+print_fault lost g v w s k before now r up count rose t = read_faulted (print lost g s.name) v w s k before now r (λ p h. ap (refused_with s.name) (up_at v s p h up)) (λ p q d. d) count rose (λ p. t)
 
 pub print_cut : (lost : Bool) (g : ℕ) (v w : View) (s : Site) → disk.Reads v w → v.faults ≤ w.faults → IsCutAt (print lost g s.name) v s w
-print_cut lost g v w s r later p h =
-    let a = read_at v w s p r h in
-    (counted p w.faults, record { told = refl; outcomes = λ sure o m. inl m; standings = λ sure. left_old (print lost g s.name p).left_so p.standings p.standings (stand_same p.standings); faults = omega (arith, later, h.disk.faults); simulated = refl }, a.disk)
+print_cut lost g v w s = read_cut (print lost g s.name) v w s
 
 pub empty_is : (bytes : List ℕ) → (length bytes == 0) ≡ true → bytes ≡ []
 empty_is [] e = refl

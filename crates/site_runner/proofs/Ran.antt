@@ -41,6 +41,7 @@ use Rattle.site_runner.proofs.Remembered.{entries_count}
 use Rattle.site_runner.proofs.Stopped.{open_at, reigns_at}
 use Rattle.site_runner.proofs.Amongs.{among_first, among_second, among_either}
 use Rattle.site_runner.proofs.Begun.{nat_cases}
+use Rattle.site_store.specs.Site.{count_of}
 
 -- What jobs are left doesn't depend on what they come to.
 
@@ -140,7 +141,7 @@ of_sequence name c seq h = record { made = h.made; name = h.name }
 -- all jobs are decided
 pub ran : (v w : View) (nothing : NothingIsLeft w) (s : Site) (r new : Reign) (jobs : List (List Job)) (order : List ℕ) (before middle now : List ℕ) → IsLawful w → UsesUp jobs order → s.state ≡ Primary r → new.site.stamp ≡ r.site.stamp → w.simulated ≡ v.simulated → v.faults ≤ w.faults
     → ((told : Bool) (c : Contents) → Reigns v told c r → HasDecided w told c jobs order r new (GaveLines before middle))
-    → now ≡ middle ++ line s.name (codes "AT " ++ decimal (length new.site.entries)) → ExecutesAt (run jobs order s.name) v s w (record { name = s.name; state = Primary new }) before now false
+    → now ≡ middle ++ line s.name (codes "AT " ++ decimal (count_of new.site)) → ExecutesAt (run jobs order s.name) v s w (record { name = s.name; state = Primary new }) before now false
 ran v w nothing s r new jobs order before middle now law whole st stamped same later f t p h =
     let d : HasDecided w p.told p.now jobs order r new (GaveLines before middle) = f p.told p.now (reigns_at v s r p st h) in
     let stamp = stamp_of r in
@@ -149,7 +150,7 @@ ran v w nothing s r new jobs order before middle now law whole st stamped same l
     let o : Contents = with_sequence p.now turn.sequence in
     let q : Place = record { site = in_new_state state p.site; told = p.told; now = o; left = NO_LEFTOVER; outcomes = o ∷ []; standings = Some (bare o ∷ []); shown = w.content; faults = w.faults; simulated = p.simulated } in
     let ends : Section = record { picks = order; fault = None } in
-    let count : length new.site.entries ≡ length turn.sequence = entries_count (with_sequence p.now turn.sequence) (length turn.sequence) new.site d.reigns.remembered in
+    let count : count_of new.site ≡ length turn.sequence = entries_count (with_sequence p.now turn.sequence) (length turn.sequence) new.site d.reigns.remembered in
     let text : turn_on p.site jobs ends.picks p ≡ turn = ap (λ (x : Option world.Site). turn_on x jobs ends.picks p) (site_is v s r p st h) in
     let stamp_new : stamp ≡ stamp_of new = ap stamp_in (sym stamped) in
     comes_ran
@@ -175,7 +176,7 @@ ran v w nothing s r new jobs order before middle now law whole st stamped same l
         state = record { reigns = d.reigns; settled = λ sure x j. only x o j; left = λ sure. refl; standings = λ sure. refl };
       };
     })
-    (t ∙ ap (λ (x : List ℕ). x ++ line s.name (codes "AT " ++ decimal (length new.site.entries))) d.given
+    (t ∙ ap (λ (x : List ℕ). x ++ line s.name (codes "AT " ++ decimal (count_of new.site))) d.given
     ∙ append_assoc before (flat_map reply_line turn.replies) _
     ∙ ap (λ (k : ℕ). before ++ (flat_map reply_line turn.replies ++ line s.name (codes "AT " ++ decimal k))) count
     ∙ ap (λ (x : Turn). before ++ section_text s.name (length order) x None) (sym text))

@@ -19,7 +19,7 @@ use Rattle.journal_defs.specs.Instance.{InstanceRecord, Create, Reigned, Cut, Ma
 use Rattle.journal_defs.specs.Surviving.{reigns}
 use Rattle.journal_defs.specs.Fit.{MOST_REIGNS}
 use Rattle.site_store.specs.declared.site.OpenSite.{OpenSite}
-use Rattle.site_store.specs.Site.{Remembers, IsOpen, WasOpenedFrom}
+use Rattle.site_store.specs.Site.{Remembers, IsOpen, WasOpenedFrom, count_of}
 use Rattle.site_store.specs.Opening.{MayBeOpen, MayBeOpenWith, EachStands}
 use Rattle.repl_section.specs.declared.reign.Reign.{Reign}
 use Rattle.repl_section.specs.Reigns.{stamp_in, stamp_of}
@@ -196,7 +196,7 @@ opened_told leftovers one_only v w s o p law down h name sure told drawn held sa
       broken = p.left.broken;
       as_before = λ _. refl;
       as_left = λ _. refl;
-      is_open = record { remembered = one.remembered; entries = λ _. one.entries refl; kept = λ _. one.kept refl };
+      is_open = record { remembered = one.remembered; kept = λ _. one.kept refl };
       outcome = λ _. (p.now, subst (λ (x : Contents). Among p.outcomes x) same_out out.1, one);
       standing = λ _. standing_there leftovers one_only read.0 p.now p.left p.standings reads (at_image v read.0 p.standings read.2 (standings_of v p up h.disk sure));
       drawn = λ _. generation_left p.now (drawn_here p.now site.0);
@@ -217,7 +217,7 @@ opened_untold v w s o p down h name unsure read held same later = record {
   broken = read.1;
   as_before = λ sure. absurd (false≢true (sym unsure ∙ sure));
   as_left = λ sure. absurd (false≢true (sym unsure ∙ sure));
-  is_open = record { remembered = read.2; entries = λ sure. absurd (false≢true (sym unsure ∙ sure)); kept = λ sure. absurd (false≢true (sym unsure ∙ sure)) };
+  is_open = record { remembered = read.2; kept = λ sure. absurd (false≢true (sym unsure ∙ sure)) };
   outcome = λ sure. absurd (false≢true (sym unsure ∙ sure));
   standing = λ sure. absurd (false≢true (sym unsure ∙ sure));
   drawn = λ sure. absurd (false≢true (sym unsure ∙ sure));
@@ -513,7 +513,7 @@ before_last (x ∷ xs) (y ∷ ys) a b e =
 
 -- as many entries are remembered as the bytes' sequence has
 count_same : (o : OpenSite) (u : Records) (seq : Sequence) (c : Contents) (n : ℕ) → WasOpenedFrom u seq o → Remembers c n o → length c.sequence ≡ length seq
-count_same o u seq c n from remembered = sym (entries_count c n o remembered) ∙ ap length from.entries
+count_same o u seq c n from remembered = sym (entries_count c n o remembered) ∙ from.count
 
 -- and its records are those
 records_same : (o : OpenSite) (u : Records) (seq : Sequence) (broken : List ℕ) (c : Contents) (n : ℕ) → WasOpenedFrom u seq o → Remembers (opened broken c) n o → c.instance ≡ u.instance
@@ -593,7 +593,7 @@ reign_limited v nothing s o before now law limit t p h = elim (is_true_or_false 
   | inr unsure ↦ reign_limit_untold v s o before now p h unsure limit t
 ]
 
-entries_open : (v : View) (told : Bool) (c : Contents) (n : ℕ) (o : OpenSite) → IsOpen v told c n o → length o.entries ≡ length c.sequence
+entries_open : (v : View) (told : Bool) (c : Contents) (n : ℕ) (o : OpenSite) → IsOpen v told c n o → count_of o ≡ length c.sequence
 entries_open v told c n o h = entries_count c n o h.remembered
 
 -- the reign has begun
@@ -601,7 +601,7 @@ pub reign_starts : (v w : View) (nothing : NothingIsLeft w) (s : Site) (o new : 
     → ((told : Bool) (c : Contents) → IsOpen v told c (length c.sequence) o → IsOpen w told (with_reign (site_name c.instance) c) (length c.sequence) new)
     → ((c : Contents) → c.instance ≡ o.instance.records → stamp_value stamp ≡ next_stamp (site_name c.instance) c) → new.stamp ≡ Some stamp
     → ((c : Contents) (n : ℕ) → Remembers c n o → no_reign_left c ≡ false) → w.simulated ≡ v.simulated → v.faults ≤ w.faults
-    → from ≡ length o.entries + 1 → now ≡ before ++ line s.name (codes "PRIMARY " ++ decimal stamp.cycle ++ codes " FROM " ++ decimal from)
+    → from ≡ count_of o + 1 → now ≡ before ++ line s.name (codes "PRIMARY " ++ decimal stamp.cycle ++ codes " FROM " ++ decimal from)
     → BeginsAt v o s w (record { name = s.name; state = Primary (record { site = new; serials = serials }) }) before now true
 reign_starts v w nothing s o new stamp serials from before now law first_serials begun drawn stamped room same later is_from t p h =
     let read : Contents = h.read in

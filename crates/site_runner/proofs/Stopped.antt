@@ -1,5 +1,5 @@
--- Commands on a site, as commands on its slot; EXTRACT, ZWRITE and SHOW at a place.
-use Rattle.std.proofs.Common.{◌≡◌, ℕ, true, false, List, [], ◌∷◌, ◌++◌, length, map, Some, refl, sym, ◌∙◌, ap, subst, arith, inl, nat_eq, append_assoc, Bool, None}
+-- Commands on a site, as commands on its slot; ZWRITE and SHOW at a place.
+use Rattle.std.proofs.Common.{◌≡◌, ℕ, true, List, [], ◌∷◌, ◌++◌, length, map, Some, refl, sym, ◌∙◌, ap, subst, arith, inl, nat_eq, append_assoc, Bool, None}
 use Rattle.std.specs.Prelude.{Option, codes, option_map, Result, IfOk, OnErr}
 use Rattle.std.specs.Fmt.{decimal}
 use Rattle.std.specs.List.{flat_map}
@@ -21,10 +21,9 @@ use Rattle.world_defs.specs.Row.{Row, or_else, refused_with, in_state, why_not_o
 use Rattle.world_defs.specs.Step.{LeftByRow}
 use Rattle.world_defs.specs.Ties.{Matches}
 use Rattle.world_defs.specs.Meaning.{row_at}
-use Rattle.world_defs.specs.rows.Extract.{extract}
 use Rattle.world_defs.specs.rows.Show.{reign_text, show_state, show_on, show}
 use Rattle.world_defs.specs.rows.Zwrite as rows
-use Rattle.site_defs.specs.Texts.{extract_from, zwrite}
+use Rattle.site_defs.specs.Texts.{zwrite}
 use Rattle.site_regions.specs.Joined.{joined}
 use Rattle.repl_section.specs.declared.reign.Reign.{Reign}
 use Rattle.repl_section.specs.Reigns.{Reigns, stamp_of}
@@ -36,10 +35,11 @@ use Rattle.site_runner.specs.Sites.{site_value, state_value, is_slot_named, IsOp
 use Rattle.site_runner.specs.Executes.{Comes, ExecutesHere, IsCutHere}
 use Rattle.site_runner.specs.Tied.{IsPlace}
 use Rattle.site_runner.proofs.Results.{on_errs, err_holds}
-use Rattle.site_runner.proofs.Remembered.{entries_count, entries_known}
+use Rattle.site_runner.proofs.Remembered.{entries_count}
 use Rattle.site_runner.specs.Steps.{state_text, IsAt, ExecutesAt, IsCutAt}
 use Rattle.site_runner.proofs.Cuts.{split_and}
-use Rattle.site_runner.proofs.Ats.{stand_same, left_old, comes_done, comes_typed, comes_so, on_done, state_at, kept_same}
+use Rattle.site_runner.proofs.Ats.{stand_same, left_old, comes_done, comes_so, on_done, state_at, kept_same}
+use Rattle.site_store.specs.Site.{count_of}
 
 pub names_same : (a b : Name) → same_name a b ≡ true → a ≡ b
 names_same [] [] e = refl
@@ -101,21 +101,6 @@ reigns_at v s r p e h = let o = open_at v s r p e h in o.reigns
 pub open_at_place : (v : View) (s : Site) (r : Reign) (p : Place) → s.state ≡ Primary r → IsAt v s p → refused_with s.name (in_state why_not_open p.site) ≡ None
 open_at_place v s r p e h = ap (refused_with s.name) (state_at why_not_open v s p h ∙ ap (λ (x : State). why_not_open (state_value x)) e)
 
--- the entries that are shown are those in memory
-pub extracts_at : (v : View) (s : Site) (r : Reign) (from : Option ℕ) (before now : List ℕ) → s.state ≡ Primary r → now ≡ before ++ extract_from s.name from r.site.entries
-    → ExecutesAt (extract from s.name) v s v s before now false
-extracts_at v s r from before now e h p at_p =
-    let o = reigns_at v s r p e at_p in
-    comes_typed (extract_from s.name from r.site.entries) p (ap (λ (x : Option Refusal). or_else x None) (open_at_place v s r p e at_p))
-    (record {
-      entries = r.site.entries;
-      count = entries_count p.now (length p.now.sequence) r.site o.remembered;
-      told = entries_known v p.told p.now (length p.now.sequence) r.site o;
-      shows = refl;
-      kept = kept_same p;
-    })
-    tt at_p h
-
 pub zwrites_at : (v : View) (s : Site) (r : Reign) (top : Option Key) (before now : List ℕ) → s.state ≡ Primary r → now ≡ before ++ zwrite top (joined r.site.globals) → ExecutesAt (rows.zwrite top s.name) v s v s before now true
 zwrites_at v s r top before now e t p at_p =
     comes_done p (ap (λ (x : Option Refusal). or_else x None) (open_at_place v s r p e at_p)) (kept_same p) tt at_p (t ∙ ap (λ (g : Globals). before ++ zwrite top g) (reigns_at v s r p e at_p).remembered.globals)
@@ -136,7 +121,7 @@ shows_at v s before now t p h =
     comes_done p refl (kept_same p) tt h (t ∙ ap (λ (x : List ℕ). before ++ x) (shown_state v s p s.state refl h) ∙ ap (λ (o : Option world.Site). before ++ show_on s.name o p.now) (sym h.site))
 
 -- what is shown of a site that is open, written in two steps
-pub state_written : (s : Site) (r : Reign) (n : Name) (cycle len : ℕ) (rs : List code_reign.Reign) (before mid now : List ℕ) → s.state ≡ Primary r → n ≡ s.name → cycle ≡ (stamp_of r).cycle → len ≡ length r.site.entries
+pub state_written : (s : Site) (r : Reign) (n : Name) (cycle len : ℕ) (rs : List code_reign.Reign) (before mid now : List ℕ) → s.state ≡ Primary r → n ≡ s.name → cycle ≡ (stamp_of r).cycle → len ≡ count_of r.site
     → map reign_value rs ≡ reigns r.site.instance.records → mid ≡ before ++ line n (codes "STATE PRIMARY " ++ decimal cycle ++ codes " LENGTH " ++ decimal len) → now ≡ mid ++ flat_map (λ x. line n (reign_text x)) (map reign_value rs)
     → now ≡ before ++ state_text s.name s.state
 state_written s r n cycle len rs before mid now is e c l h m t =
@@ -147,7 +132,7 @@ state_written s r n cycle len rs before mid now is e c l h m t =
     ∙ ap (λ (x : Name). before ++ (first x cycle len ++ lines x (map reign_value rs))) e
     ∙ ap (λ (x : ℕ). before ++ (first s.name x len ++ lines s.name (map reign_value rs))) c
     ∙ ap (λ (x : ℕ). before ++ (first s.name (stamp_of r).cycle x ++ lines s.name (map reign_value rs))) l
-    ∙ ap (λ (x : List defs.Reign). before ++ (first s.name (stamp_of r).cycle (length r.site.entries) ++ lines s.name x)) h
+    ∙ ap (λ (x : List defs.Reign). before ++ (first s.name (stamp_of r).cycle (count_of r.site) ++ lines s.name x)) h
     ∙ ap (λ (x : State). before ++ state_text s.name x) (sym is)
 
 pub down_written : (s : Site) (n : Name) (before now : List ℕ) → s.state ≡ Down → n ≡ s.name → now ≡ before ++ line n (codes "STATE DOWN") → now ≡ before ++ state_text s.name s.state

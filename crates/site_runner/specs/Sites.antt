@@ -64,7 +64,7 @@ IsReadyOn v (Some s) = IsReadyState v s.state
 abbrev pub AreReady : {D : Type 0} → (D → View) → List (Slot D) → Type 0
 AreReady view slots = AllByRecursion (λ slot. IsReadyOn (view slot.disk) slot.site) slots
 
--- An open site has in memory the records and the nodes of its place and as many entries and, where files are known, these entries, in memory and on the disk for good.
+-- An open site has in memory the records and the nodes of its place and places of as many entries and, where files are known, these entries on the disk for good.
 pub record IsOpen (v : View) (r : Reign) (p : Place) : Type 0 where
   pub reigns : Reigns v p.told p.now r
   pub settled : IsTrue p.told → Settled p

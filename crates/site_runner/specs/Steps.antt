@@ -1,5 +1,5 @@
 -- What steps at one site are, apart from its disk.
-use Rattle.std.specs.Prelude.{◌≡◌, ℕ, Bool, ◌++◌, List, length, codes, Some}
+use Rattle.std.specs.Prelude.{◌≡◌, ℕ, Bool, ◌++◌, List, codes, Some}
 use Rattle.std.specs.Fmt.{decimal}
 use Rattle.std.specs.List.{flat_map}
 use Rattle.disk_defs.specs.Disk.{View}
@@ -16,6 +16,7 @@ use Rattle.site_runner.specs.declared.slot.State.TheVariants.{Down, Primary, Fai
 use Rattle.site_runner.specs.declared.slot.Site.{Site}
 use Rattle.site_runner.specs.Sites.{site_value, IsHeld}
 use Rattle.site_runner.specs.Executes.{Comes}
+use Rattle.site_store.specs.Site.{count_of}
 
 abbrev pub in_state : Site → State → Site
 in_state s state = record { name = s.name; state = state }
@@ -24,7 +25,7 @@ in_state s state = record { name = s.name; state = state }
 abbrev pub state_text : List ℕ → State → List ℕ
 state_text name Down = line name (codes "STATE DOWN")
 state_text name (Failed fault) = line name (codes "STATE FAILED " ++ decimal fault)
-state_text name (Primary r) = line name (codes "STATE PRIMARY " ++ decimal (stamp_of r).cycle ++ codes " LENGTH " ++ decimal (length r.site.entries))
+state_text name (Primary r) = line name (codes "STATE PRIMARY " ++ decimal (stamp_of r).cycle ++ codes " LENGTH " ++ decimal (count_of r.site))
     ++ flat_map (λ x. line name (reign_text x)) (reigns r.site.instance.records)
 
 -- The site stands at this place.

@@ -41,15 +41,19 @@ use Rattle.site_store.specs.declared.site.OpenSite.{OpenSite}
 use Rattle.site_store.proofs.HeldRegions.{held_stays, no_instance_file, synced_stays}
 use Rattle.site_store.specs.Finding.{HasLayout}
 use Rattle.site_regions.specs.Joined.{joined}
-use Rattle.site_store.specs.Site.{Remembers, AreHeld, IsReady, Keeps, IsOpen, WasOpened, HasReign, AreOnBlocks}
+use Rattle.site_store.specs.Site.{Remembers, AreHeld, IsReady, Keeps, IsOpen, WasOpened, HasReign, AreOnBlocks, count_of}
 use Rattle.site_store.proofs.OnBlocks.{on_same, on_chosen}
 use Rattle.site_store.specs.Reigning.{HasNoReignLeft, HasReignLeft, IsNextReign}
 use Rattle.site_store.proofs.Standing.{images_stand, reads_of, reads_so, told_of, still}
 use Rattle.site_store.proofs.Images.{same_image, reign_image, generation_kept, patterns_kept, name_kept, regions_kept, AreOf, are_of, site_of, is_created, texts_same, losts_same, left_nothing}
 use Rattle.site_store.proofs.Emptied.{none_left}
 use Rattle.site_store.proofs.Frames as frames
+use Rattle.entry_index.specs.declared.index.EntryIndex.{EntryIndex}
+use Rattle.site_store.proofs.Indexing.{index_begun, stand_same}
 use Rattle.site_store.proofs.Remembered.{remembered_length}
 use Rattle.site_store.proofs.Parts.{no_entry_no_part}
+use Rattle.entry_index.specs.Found.{entry_count, IsWhole}
+use Rattle.entry_index.specs.Among.{IsIndexOf}
 
 -- limits
 filter_all : (n : ℕ) (rs : List Reign) → AllByRecursion (λ (r : Reign). r.start ≤ n) rs → length (filter (λ (r : Reign). nat_le r.start n) rs) ≡ length rs
@@ -67,14 +71,14 @@ chosen_none false false h k = refl
 chosen_none true b h k = absurd (cc h)
 chosen_none false true h k = absurd (cc k)
 
-begun_by_now : (c : Contents) (h : ℕ) (s : OpenSite) → Remembers c h s → AllByRecursion (λ (r : Reign). r.start ≤ length s.entries) (reigns s.instance.records)
+begun_by_now : (c : Contents) (h : ℕ) (s : OpenSite) → Remembers c h s → AllByRecursion (λ (r : Reign). r.start ≤ count_of s) (reigns s.instance.records)
     → length (filter (λ (r : Reign). nat_le r.start (length c.sequence)) (reigns c.instance)) ≡ length (reigns s.instance.records)
 begun_by_now c h s is all =
     ap (λ (n : ℕ). length (filter (λ (r : Reign). nat_le r.start n) (reigns c.instance))) (sym (remembered_length c h s is))
-    ∙ ap (λ (rs : List InstanceRecord). length (filter (λ (r : Reign). nat_le r.start (length s.entries)) (reigns rs))) (sym is.instance)
-    ∙ filter_all (length s.entries) (reigns s.instance.records) all
+    ∙ ap (λ (rs : List InstanceRecord). length (filter (λ (r : Reign). nat_le r.start (count_of s)) (reigns rs))) (sym is.instance)
+    ∙ filter_all (count_of s) (reigns s.instance.records) all
 
-pub limit_reached : (c : Contents) (h : ℕ) (s : OpenSite) → Remembers c h s → AllByRecursion (λ (r : Reign). r.start ≤ length s.entries) (reigns s.instance.records) → HasNoReignLeft s → no_reign_left c ≡ true
+pub limit_reached : (c : Contents) (h : ℕ) (s : OpenSite) → Remembers c h s → AllByRecursion (λ (r : Reign). r.start ≤ count_of s) (reigns s.instance.records) → HasNoReignLeft s → no_reign_left c ≡ true
 limit_reached c h s is all none =
     let count = begun_by_now c h s is all in
     let cycles : greatest_cycle s.instance.records ≡ greatest_cycle c.instance = ap greatest_cycle is.instance in
@@ -83,7 +87,7 @@ limit_reached c h s is all none =
       | inr last ↦ inr (grind (arith, nat_tests, cycles, last))
     ])
 
-pub limit_open : (c : Contents) (h : ℕ) (s : OpenSite) → Remembers c h s → AllByRecursion (λ (r : Reign). r.start ≤ length s.entries) (reigns s.instance.records) → HasReignLeft s → no_reign_left c ≡ false
+pub limit_open : (c : Contents) (h : ℕ) (s : OpenSite) → Remembers c h s → AllByRecursion (λ (r : Reign). r.start ≤ count_of s) (reigns s.instance.records) → HasReignLeft s → no_reign_left c ≡ false
 limit_open c h s is all left =
     let count = begun_by_now c h s is all in
     let cycles : greatest_cycle s.instance.records ≡ greatest_cycle c.instance = ap greatest_cycle is.instance in
@@ -103,8 +107,8 @@ all_past : (n m : ℕ) (rs : List Reign) → AllByRecursion (λ (q : Reign). q.s
 all_past n m [] all more = tt
 all_past n m (r ∷ rs) all more = (omega (arith, all.0), all_past n m rs all.1 more)
 
-pub past_all : (s : OpenSite) (r : Reign) → AllByRecursion (λ (q : Reign). q.start ≤ length s.entries) (reigns s.instance.records) → IsNextReign s r → AllByRecursion (λ (q : Reign). q.start < r.start) (reigns s.instance.records)
-past_all s r all is = all_past (length s.entries) r.start (reigns s.instance.records) all (let e = is.start in omega (arith, e))
+pub past_all : (s : OpenSite) (r : Reign) → AllByRecursion (λ (q : Reign). q.start ≤ count_of s) (reigns s.instance.records) → IsNextReign s r → AllByRecursion (λ (q : Reign). q.start < r.start) (reigns s.instance.records)
+past_all s r all is = all_past (count_of s) r.start (reigns s.instance.records) all (let e = is.start in omega (arith, e))
 
 stamp_last : (n : ℕ) (rs : List Reign) (r : Reign) → r.start ≤ n → stamp_at n (rs ++ r ∷ []) ≡ Some r.stamp
 stamp_last n [] r le = let yes : nat_le r.start n ≡ true = grind (arith, nat_tests, le) in rw yes refl
@@ -116,7 +120,7 @@ has_reign old new r stamp is records entries told same = record {
   is = told;
   covers = λ n past.
       let e = is.start in
-      let count : length new.entries ≡ length old.entries = ap length entries in
+      let count : count_of new ≡ count_of old = ap entry_count entries in
       ap (λ (l : List InstanceRecord). stamp_at n (reigns l)) records ∙ ap (stamp_at n) (runs.reigns-more old.instance.records r)
       ∙ stamp_last n (reigns old.instance.records) r (omega (arith, e, past, count)) ∙ ap Some same;
 }
@@ -235,7 +239,10 @@ ready_begun v w old new x ready some instance records journals layout stays glob
       (frames.journals_ready v w (Only INSTANCE) old.journals.journals.items stays (journals_away v old ready) (generation old.instance.records) ready.journals));
   each_region = ap (λ (js : RegionJournals). length js.journals.items) journals ∙ ready.each_region ∙ sym (ap (λ (rs : List InstanceRecord). length (regions rs)) records ∙ ap length (regions_kept old.instance.records x some));
   regions = subst (λ (n : ℕ). AreHeld w n new.globals) (sym (ap (λ (rs : List InstanceRecord). length (regions rs)) records ∙ ap length (regions_kept old.instance.records x some))) (held_beside v w old new ready stays globals);
-  few = subst (λ (l : Sequence). length l < 2 ^ 40) (sym entries) ready.few;
+  few = subst (λ (i : EntryIndex). entry_count i < 2 ^ 40) (sym entries) ready.few;
+  whole = subst IsWhole (sym entries) ready.whole;
+  some_place = subst (λ (i : EntryIndex). 1 ≤ i.regions) (sym entries) ready.some_place;
+  each_place = ap (λ (i : EntryIndex). i.regions) entries ∙ ready.each_place ∙ sym (ap (λ (rs : List InstanceRecord). length (regions rs)) records ∙ ap length (regions_kept old.instance.records x some));
 }
 
 instance_in : (w : View) (i : Instance) (rs : List InstanceRecord) → instances.HasRecords w i rs → (f : Files) → Image w f → IsInstance (f INSTANCE) rs
@@ -246,7 +253,7 @@ instance_in w i rs has f now = among w.content has
     among (Some a) h = h.stands f now
 
 module _ (v w : View) (c : Contents) (old new : OpenSite) (k : Keeps v c (length c.sequence) old) (past : AllByRecursion (λ (q : Reign). q.start < length c.sequence + 1) (reigns c.instance)) (lawful : IsLawful w) (stays : OthersStay (Only INSTANCE) v w)
-    (away : frames.AreAway (Only INSTANCE) old.journals.journals.items) (created : 0 < length c.instance) (has : instances.HasRecords w new.instance (c.instance ++ Reigned (reign_of c) ∷ [])) (journals : new.journals ≡ old.journals) (globals : new.globals ≡ old.globals) where
+    (away : frames.AreAway (Only INSTANCE) old.journals.journals.items) (created : 0 < length c.instance) (has : instances.HasRecords w new.instance (c.instance ++ Reigned (reign_of c) ∷ [])) (journals : new.journals ≡ old.journals) (entries : new.entries ≡ old.entries) (globals : new.globals ≡ old.globals) where
   now_begun : (f : Files) → Image w f → IsInstance (f INSTANCE) (c.instance ++ Reigned (reign_of c) ∷ [])
   now_begun f now = instance_in w new.instance (c.instance ++ Reigned (reign_of c) ∷ []) has f now
 
@@ -301,6 +308,7 @@ module _ (v w : View) (c : Contents) (old new : OpenSite) (k : Keeps v c (length
     };
     sound = sound;
     older_files = λ f now r low. let from = stays.images f now in journal_same from.0 f r k.g (k.last r) (k.older r) (λ h le. from.2 (journal_file h r) (λ e. omega (arith, e))) (k.older_files from.0 from.1 r (here r low));
+    older_stand = λ f now r low. let from = stays.images f now in stand_same from.0 f r k.g (k.older r) (λ h le. from.2 (journal_file h r) (λ e. omega (arith, e))) (k.older_stand from.0 from.1 r (here r low));
     none_past = λ n r more. runs.part_of-sparing k.records.instance (Reigned (reign_of c)) n (k.records.journal r) (λ h m. refl) ∙ k.none_past n r more;
     blocks = on_begun;
     databases = λ f d i j r low. synced_stays v w (Only INSTANCE) (length (regions c.instance)) stays.images (no_instance_file (length (regions c.instance))) k.databases f d i j r (here r low);
@@ -310,16 +318,18 @@ module _ (v w : View) (c : Contents) (old new : OpenSite) (k : Keeps v c (length
         (subst (AreEntries (c.instance ++ Reigned (reign_of c) ∷ []) (suc k.g) (length c.sequence) []) (sym (drop-length c.sequence)) tt);
     are_parts = nothing_waits ∙ no_entry_no_part (patterns (c.instance ++ Reigned (reign_of c) ∷ [])) c.sequence;
     in_regions = subst (λ (n : ℕ). AreInside n k.waiting) (sym count) k.in_regions;
+    indexed = subst (λ (i : EntryIndex). IsIndexOf (λ r. k.records.journal r ++ appended (suc k.g) k.waiting r) (reigns (c.instance ++ Reigned (reign_of c) ∷ [])) i c.sequence) (sym entries)
+        (index_begun (λ r. k.records.journal r ++ appended (suc k.g) k.waiting r) c.instance (reign_of c) old.entries c.sequence (omega arith) k.indexed);
     at_home = λ r low. subst (λ (ps : List (ℕ → Option Part)). AllByRecursion (λ (p : Placed). IsAtHome (c.instance ++ Reigned (reign_of c) ∷ []) r p.generation p.what) (appended (suc k.g) ps r)) (sym nothing_waits) tt;
     instance_file = has;
     journal_files = subst (λ (js : RegionJournals). KeepsJournals w k.newer (tcoms k.waiting) js.journals.items) (sym journals)
         (frames.journals_keep v w (Only INSTANCE) old.journals.journals.items stays away k.newer (tcoms k.waiting) k.journal_files);
   }
 
-pub past_in : (c : Contents) (h : ℕ) (s : OpenSite) → Remembers c h s → AllByRecursion (λ (q : Reign). q.start ≤ length s.entries) (reigns s.instance.records) → AllByRecursion (λ (q : Reign). q.start < length c.sequence + 1) (reigns c.instance)
+pub past_in : (c : Contents) (h : ℕ) (s : OpenSite) → Remembers c h s → AllByRecursion (λ (q : Reign). q.start ≤ count_of s) (reigns s.instance.records) → AllByRecursion (λ (q : Reign). q.start < length c.sequence + 1) (reigns c.instance)
 past_in c h s is all =
     let count = remembered_length c h s is in
-    subst (λ (l : List InstanceRecord). AllByRecursion (λ (q : Reign). q.start < length c.sequence + 1) (reigns l)) is.instance (all_past (length s.entries) (length c.sequence + 1) (reigns s.instance.records) all (omega (arith, count)))
+    subst (λ (l : List InstanceRecord). AllByRecursion (λ (q : Reign). q.start < length c.sequence + 1) (reigns l)) is.instance (all_past (count_of s) (length c.sequence + 1) (reigns s.instance.records) all (omega (arith, count)))
 
 -- nothing was written: all stands as before
 pub ready_kept : (v w : View) (old new : OpenSite) → IsReady v old → instances.IsReady w new.instance → new.instance.records ≡ old.instance.records → new.journals ≡ old.journals → new.layout ≡ old.layout → OthersStay (Only INSTANCE) v w
@@ -332,17 +342,20 @@ ready_kept v w old new ready instance records journals layout stays globals entr
       (frames.journals_ready v w (Only INSTANCE) old.journals.journals.items stays (journals_away v old ready) (generation old.instance.records) ready.journals));
   each_region = ap (λ (js : RegionJournals). length js.journals.items) journals ∙ ready.each_region ∙ sym (ap (λ (rs : List InstanceRecord). length (regions rs)) records);
   regions = subst (λ (n : ℕ). AreHeld w n new.globals) (sym (ap (λ (rs : List InstanceRecord). length (regions rs)) records)) (held_beside v w old new ready stays globals);
-  few = subst (λ (l : Sequence). length l < 2 ^ 40) (sym entries) ready.few;
+  few = subst (λ (i : EntryIndex). entry_count i < 2 ^ 40) (sym entries) ready.few;
+  whole = subst IsWhole (sym entries) ready.whole;
+  some_place = subst (λ (i : EntryIndex). 1 ≤ i.regions) (sym entries) ready.some_place;
+  each_place = ap (λ (i : EntryIndex). i.regions) entries ∙ ready.each_place ∙ sym (ap (λ (rs : List InstanceRecord). length (regions rs)) records);
 }
 
 pub opened_kept : (old new : OpenSite) → WasOpened old → new.instance.records ≡ old.instance.records → new.entries ≡ old.entries → new.hardened ≡ old.hardened → new.stamp ≡ old.stamp → WasOpened new
 opened_kept old new was records entries hardened stamp = record {
   created = subst (λ (rs : List InstanceRecord). 0 < length rs) (sym records) was.created;
   name = subst (λ (rs : List InstanceRecord). IsSiteName (site_name rs)) (sym records) was.name;
-  hardened = hardened ∙ was.hardened ∙ ap length (sym entries);
-  few = let n : length new.entries ≡ length old.entries = ap length entries in let few = was.few in omega (arith, n, few);
-  no_reign_past = subst (λ (n : ℕ). AllByRecursion (λ (q : Reign). q.start ≤ n) (reigns new.instance.records)) (ap length (sym entries))
-      (subst (λ (rs : List InstanceRecord). AllByRecursion (λ (q : Reign). q.start ≤ length old.entries) (reigns rs)) (sym records) was.no_reign_past);
+  hardened = hardened ∙ was.hardened ∙ ap entry_count (sym entries);
+  few = let n : count_of new ≡ count_of old = ap entry_count entries in let few = was.few in omega (arith, n, few);
+  no_reign_past = subst (λ (n : ℕ). AllByRecursion (λ (q : Reign). q.start ≤ n) (reigns new.instance.records)) (ap entry_count (sym entries))
+      (subst (λ (rs : List InstanceRecord). AllByRecursion (λ (q : Reign). q.start ≤ count_of old) (reigns rs)) (sym records) was.no_reign_past);
   no_reign = stamp ∙ was.no_reign;
 }
 
@@ -352,11 +365,10 @@ pub open_kept : (v w : View) (told : Bool) (c : Contents) (h : ℕ) (old new : O
 open_kept v w told c h old new lawful ready stays unwritten state records entries changed hardened journals is = record {
   remembered = record {
     instance = records ∙ is.remembered.instance;
-    count = ap length entries ∙ is.remembered.count;
+    count = ap entry_count entries ∙ is.remembered.count;
     globals = ap joined changed ∙ is.remembered.globals;
     hardened = hardened ∙ is.remembered.hardened;
   };
-  entries = λ t. entries ∙ is.entries t;
   kept = λ t.
       let k = is.kept t in
       let was : (f : Files) → Image w f → Image v f = λ f now. holds_now v w (Image v) lawful unwritten f now in
@@ -373,6 +385,7 @@ open_kept v w told c h old new lawful ready stays unwritten state records entrie
         newest = record { generation = k.newest.generation; not_last = k.newest.not_last; instance = k.newest.instance; whole = k.newest.whole; begins = k.newest.begins; begun = k.newest.begun };
         sound = λ f now. k.sound f (was f now);
         older_files = λ f now. k.older_files f (was f now);
+        older_stand = λ f now. k.older_stand f (was f now);
         none_past = k.none_past;
         blocks = λ f now. subst (AreOnBlocks f k.records h) (sym changed) (k.blocks f (was f now));
         databases = λ f d i j. k.databases f d (was f i) (was d j);
@@ -381,6 +394,7 @@ open_kept v w told c h old new lawful ready stays unwritten state records entrie
         are_waiting = k.are_waiting;
         are_parts = k.are_parts;
         in_regions = k.in_regions;
+        indexed = subst (λ (i : EntryIndex). IsIndexOf (λ r. k.records.journal r ++ appended (suc k.g) k.waiting r) (reigns c.instance) i c.sequence) (sym entries) k.indexed;
         at_home = k.at_home;
         instance_file = state c.instance k.instance_file;
         journal_files = subst (λ (js : RegionJournals). KeepsJournals w k.newer (tcoms k.waiting) js.journals.items) (sym journals)
@@ -392,7 +406,7 @@ open_kept v w told c h old new lawful ready stays unwritten state records entrie
 pub record Begins (v w : View) (old new : OpenSite) (r : Reign) : Type 0 where
   pub ready : IsReady v old
   pub created : 0 < length old.instance.records
-  pub past : AllByRecursion (λ (q : Reign). q.start ≤ length old.entries) (reigns old.instance.records)
+  pub past : AllByRecursion (λ (q : Reign). q.start ≤ count_of old) (reigns old.instance.records)
   pub next : IsNextReign old r
   pub stays : OthersStay (Only INSTANCE) v w
   pub state : (rs : List InstanceRecord) → instances.HasRecords v old.instance rs → instances.HasRecords w new.instance (rs ++ Reigned r ∷ [])
@@ -405,19 +419,18 @@ open_begun v w told c old new r lawful b entries changed hardened journals is =
     record {
       remembered = record {
         instance = b.records ∙ ap (λ (x : Reign). old.instance.records ++ Reigned x ∷ []) same ∙ ap (λ (l : List InstanceRecord). l ++ Reigned (reign_of c) ∷ []) is.remembered.instance;
-        count = ap length entries ∙ is.remembered.count;
+        count = ap entry_count entries ∙ is.remembered.count;
         globals = ap joined changed ∙ is.remembered.globals;
         hardened = hardened ∙ is.remembered.hardened;
       };
-      entries = λ t. entries ∙ is.entries t;
       kept = λ t.
           let k = is.kept t in
           keeps_begun v w c old new k (past_in c (length c.sequence) old is.remembered b.past) lawful b.stays (journals_away v old b.ready) (subst (λ (l : List InstanceRecord). 0 < length l) is.remembered.instance b.created)
-          (subst (λ (x : Reign). instances.HasRecords w new.instance (c.instance ++ Reigned x ∷ [])) same (b.state c.instance k.instance_file)) journals changed;
+          (subst (λ (x : Reign). instances.HasRecords w new.instance (c.instance ++ Reigned x ∷ [])) same (b.state c.instance k.instance_file)) journals entries changed;
     }
 
 -- at each moment of it
-pub left_begun : (v w : View) (c : Contents) (old : OpenSite) (r : Reign) → AllByRecursion (λ (q : Reign). q.start ≤ length old.entries) (reigns old.instance.records) → IsNextReign old r
+pub left_begun : (v w : View) (c : Contents) (old : OpenSite) (r : Reign) → AllByRecursion (λ (q : Reign). q.start ≤ count_of old) (reigns old.instance.records) → IsNextReign old r
     → ((rs : List InstanceRecord) → instances.HasRecords v old.instance rs → AtEachMoment v w (OnlyOn v INSTANCE (instances.StandsWith rs (Reigned r))))
     → IsOpen v true c (length c.sequence) old → AtEachMoment v w (λ f. IsSiteWith f (bare c) ⊎ IsSiteWith f (bare (begun c)))
 left_begun v w c old r past next run is =
@@ -426,7 +439,7 @@ left_begun v w c old r past next run is =
     reign_left v w c old k (past_in c (length c.sequence) old is.remembered past)
     (subst (λ (x : Reign). AtEachMoment v w (OnlyOn v INSTANCE (instances.StandsWith c.instance (Reigned x)))) same (run c.instance k.instance_file))
 
-pub moments_begun : (v w : View) (c : Contents) (old : OpenSite) (r : Reign) → AllByRecursion (λ (q : Reign). q.start ≤ length old.entries) (reigns old.instance.records) → IsNextReign old r
+pub moments_begun : (v w : View) (c : Contents) (old : OpenSite) (r : Reign) → AllByRecursion (λ (q : Reign). q.start ≤ count_of old) (reigns old.instance.records) → IsNextReign old r
     → ((rs : List InstanceRecord) → instances.HasRecords v old.instance rs → AtEachMoment v w (OnlyOn v INSTANCE (instances.StandsWith rs (Reigned r))))
     → IsOpen v true c (length c.sequence) old → AtEachMoment v w (λ f. IsSite f c ⊎ IsSite f (begun c))
 moments_begun v w c old r past next run is = weaker v w (λ f. IsSiteWith f (bare c) ⊎ IsSiteWith f (bare (begun c))) (λ f. IsSite f c ⊎ IsSite f (begun c)) (λ f q. elim q [

@@ -17,15 +17,15 @@ use Rattle.global_defs.specs.Evaluation.{MOST_NODES}
 use Rattle.global_defs.specs.Prefix.{stamp_at}
 use Rattle.gvn_model.specs.declared.entry.Transaction as code
 use Rattle.gvn_model.specs.declared.reign.Stamp as code_stamp
-use Rattle.gvn_model.specs.Entries.{transaction_value, entry_value}
+use Rattle.gvn_model.specs.Entries.{transaction_value}
 use Rattle.gvn_model.specs.Reigns.{stamp_value}
 use Rattle.journal_defs.specs.Numbers.{INSTANCE, journal_file, database_file}
 use Rattle.journal_defs.specs.Journal.{JournalRecord, Part}
 use Rattle.journal_defs.specs.Instance.{InstanceRecord, generation, regions}
 use Rattle.journal_defs.specs.Directory.{Pattern, patterns}
 use Rattle.journal_defs.specs.Surviving.{reigns}
-use Rattle.journal_defs.specs.Sequence.{Records}
-use Rattle.journal_defs.specs.Growth.{AreEntries, tcoms}
+use Rattle.journal_defs.specs.Sequence.{Records, entry_with}
+use Rattle.journal_defs.specs.Growth.{AreEntries, tcoms, AreNumbered}
 use Rattle.journal_defs.specs.Split.{split, mask_of, IsSplit}
 use Rattle.journal_defs.specs.Fit.{IsSoundImage, HasFewNodes, region_of_update}
 use Rattle.journal_laws.proofs.Appending.{journal_same}
@@ -47,17 +47,23 @@ use Rattle.site_defs.specs.Stands.{IsSite, HasLeft}
 use Rattle.site_store.specs.declared.site.OpenSite.{OpenSite}
 use Rattle.site_store.specs.Finding.{HasLayout}
 use Rattle.site_regions.specs.Joined.{joined, AreChanged}
-use Rattle.site_store.specs.Site.{Remembers, IsReady, AreHeld, Keeps, IsOpen, HasReign, HasRoomFor, AreOnBlocks, with_entry}
+use Rattle.site_store.specs.Site.{Remembers, IsReady, AreHeld, Keeps, IsOpen, HasReign, HasRoomFor, AreOnBlocks, with_entry, count_of}
 use Rattle.site_store.proofs.OnBlocks.{on_same}
-use Rattle.site_store.proofs.HeldRegions.{held_stays, held_changed, no_journal, changed_not, synced_stays}
-use Rattle.site_store.specs.Committing.{Enters, IsSameSite, IsSameMemory, IsOwnJournal, ArePartsOf, parts_of}
+use Rattle.site_store.proofs.HeldRegions.{held_stays, held_changed, no_journal, synced_stays}
+use Rattle.site_store.specs.Committing.{IsSameSite, IsSameMemory, IsOwnJournal, ArePartsOf, parts_of, AddsPlaces, IsSameIndex}
 use Rattle.site_store.proofs.Frames as frames
 use Rattle.site_store.proofs.Remembered.{remembered_length, globals_more}
 use Rattle.site_store.proofs.Standing.{reads_of, reads_so, told_of, still, keeps_images}
 use Rattle.site_store.proofs.Entries as entries
 use Rattle.site_store.proofs.Emptied.{none_left}
+use Rattle.site_store.proofs.Places.{counts_places, same_self, same_count}
+use Rattle.site_store.proofs.Indexing.{stand_same}
+use Rattle.site_store.proofs.Indexed.{index_entered}
+use Rattle.site_store.proofs.OpenedTo.{one_image}
+use Rattle.journal_laws.proofs.Merging as merging
 use Rattle.site_store.proofs.Newest as newest
 use Rattle.site_store.proofs.Parts.{parts_more}
+use Rattle.entry_index.specs.Found.{IsWhole}
 
 -- the parts that were appended are those of the transaction
 pub parts_appended : (v : View) (s : OpenSite) (t : Transaction) (parts : PartRecords) (before js : List RegionJournal) (hard waiting : ℕ → List JournalRecord) → length js ≡ length before → length before ≤ 8
@@ -80,26 +86,57 @@ pub record Prepares (v w : View) (old mid : OpenSite) : Type 0 where
   pub ready_after : IsReady w mid
   pub state : (hard waiting : ℕ → List JournalRecord) → KeepsJournals v hard waiting old.journals.journals.items → KeepsJournals w hard waiting mid.journals.journals.items
   pub same : IsSameSite old mid
+  pub entries : IsSameIndex old.entries mid.entries
   pub changed : AreChanged old.globals mid.globals
   pub moments : AtEachMoment v w (Image v)
   pub stays : OthersStay (IsOwnJournal old) v w
+
+-- a prepared site with the places that it had before
+abbrev pub with_places : OpenSite → OpenSite → OpenSite
+with_places old mid = record { instance = mid.instance; layout = mid.layout; journals = mid.journals; entries = old.entries; globals = mid.globals; hardened = mid.hardened; stamp = mid.stamp }
+
+ready_before : (v w : View) (old mid : OpenSite) → IsReady v old → IsReady w mid → mid.instance ≡ old.instance → IsReady w (with_places old mid)
+ready_before v w old mid before ready same = record {
+  instance = ready.instance;
+  layout = ready.layout;
+  journals = ready.journals;
+  each_region = ready.each_region;
+  regions = ready.regions;
+  few = before.few;
+  whole = before.whole;
+  some_place = before.some_place;
+  each_place = before.each_place ∙ ap (λ (i : Instance). length (regions i.records)) (sym same);
+}
+
+pub prepares_of : (v w : View) (old mid : OpenSite) → IsReady v old → IsReady w mid
+    → ((hard waiting : ℕ → List JournalRecord) → KeepsJournals v hard waiting old.journals.journals.items → KeepsJournals w hard waiting mid.journals.journals.items)
+    → IsSameSite old mid → AreChanged old.globals mid.globals → AtEachMoment v w (Image v) → OthersStay (IsOwnJournal old) v w → Prepares v w old (with_places old mid)
+prepares_of v w old mid before ready state same changed moments stays = record {
+  ready = before;
+  ready_after = ready_before v w old mid before ready same.instance;
+  state = state;
+  same = record { instance = same.instance; layout = same.layout; hardened = same.hardened; stamp = same.stamp };
+  entries = same_self old.entries;
+  changed = changed;
+  moments = moments;
+  stays = stays;
+}
 
 pub keeps_prepared : (v w : View) (c : Contents) (h : ℕ) (old mid : OpenSite) → Prepares v w old mid → IsLawful w → Keeps v c h old → Keeps w c h mid
 keeps_prepared v w c h old mid p lawful k =
     keeps_images v w c h old mid k lawful (still v w (IsOwnJournal old) p.stays (told_of v c h old k)) (λ f now. holds_now v w (Image v) lawful p.moments f now)
     (subst (λ (i : Instance). instances.HasRecords w i c.instance) (sym p.same.instance)
     (frames.records_stay v w (IsOwnJournal old) old.instance p.stays (no_instance (generation old.instance.records) (length (regions old.instance.records))) c.instance k.instance_file))
-    (p.state k.newer (tcoms k.waiting) k.journal_files) p.changed
+    (p.state k.newer (tcoms k.waiting) k.journal_files) p.changed p.entries
 
 pub open_prepared : (v w : View) (told : Bool) (c : Contents) (h : ℕ) (old mid : OpenSite) → Prepares v w old mid → IsSameMemory old mid → IsLawful w → IsOpen v told c h old → IsOpen w told c h mid
 open_prepared v w told c h old mid p same lawful is = record {
   remembered = record {
     instance = ap (λ (i : Instance). i.records) same.same.instance ∙ is.remembered.instance;
-    count = ap length same.entries ∙ is.remembered.count;
+    count = same_count old.entries mid.entries same.entries ∙ is.remembered.count;
     globals = same.globals ∙ is.remembered.globals;
     hardened = same.same.hardened ∙ is.remembered.hardened;
   };
-  entries = λ known. same.entries ∙ is.entries known;
   kept = λ known. keeps_prepared v w c h old mid p lawful (is.kept known);
 }
 
@@ -175,7 +212,10 @@ few_longer seq e few room k = subst (λ (l : List Update). globals.len (fold app
 -- What has been done to a site that has one entry more.
 pub record Committed (v w x : View) (old mid new : OpenSite) (t : code.Transaction) (parts : PartRecords) : Type 0 where
   pub prepares : Prepares v w old mid
-  pub enters : Enters old mid t
+  pub stamp : code_stamp.Stamp
+  pub under : old.stamp ≡ Some stamp
+  pub adds : AddsPlaces parts mid.journals.journals.items mid.entries new.entries
+  pub made : joined new.globals ≡ fold apply (joined old.globals) t.updates
   pub are_parts : ArePartsOf old (transaction_value t) parts
   pub reign : HasReign old
   pub room : HasRoomFor (joined old.globals) t.updates
@@ -186,7 +226,6 @@ pub record Committed (v w x : View) (old mid new : OpenSite) (t : code.Transacti
   pub stays : (g : ℕ) → AreReady w g mid.journals.journals.items → OthersStay (IsNewestFile g (length mid.journals.journals.items)) w x
   pub instance : new.instance ≡ mid.instance
   pub layout : new.layout ≡ mid.layout
-  pub entries : new.entries ≡ mid.entries
   pub globals : new.globals ≡ mid.globals
   pub hardened : new.hardened ≡ mid.hardened
 
@@ -197,36 +236,29 @@ abbrev longer : Contents → Entry → Contents
 longer c e = with_sequence c (c.sequence ++ e ∷ [])
 
 -- its number, and its stamp
-number_of : (c : Contents) (h : ℕ) (s : OpenSite) → Remembers c h s → h ≤ length c.sequence → length s.entries + 1 ≡ h + length (drop h c.sequence) + 1
+number_of : (c : Contents) (h : ℕ) (s : OpenSite) → Remembers c h s → h ≤ length c.sequence → count_of s + 1 ≡ h + length (drop h c.sequence) + 1
 number_of c h s m low = let count = remembered_length c h s m in let rest = length-drop h c.sequence in omega (arith, count, rest, low)
 
-stamp_of : (c : Contents) (h : ℕ) (s : OpenSite) (stamp : code_stamp.Stamp) → Remembers c h s → HasReign s → s.stamp ≡ Some stamp → stamp_at (length s.entries + 1) (reigns c.instance) ≡ Some (stamp_value stamp)
+stamp_of : (c : Contents) (h : ℕ) (s : OpenSite) (stamp : code_stamp.Stamp) → Remembers c h s → HasReign s → s.stamp ≡ Some stamp → stamp_at (count_of s + 1) (reigns c.instance) ≡ Some (stamp_value stamp)
 stamp_of c h s stamp m reign is =
     let told : s.stamp ≡ Some reign.stamp = reign.is in
     let same : reign.stamp ≡ stamp = cc (told, is) in
-    subst (λ (l : List InstanceRecord). stamp_at (length s.entries + 1) (reigns l) ≡ Some (stamp_value stamp)) m.instance
-    (reign.covers (length s.entries + 1) (omega arith) ∙ ap (λ (y : code_stamp.Stamp). Some (stamp_value y)) same)
+    subst (λ (l : List InstanceRecord). stamp_at (count_of s + 1) (reigns l) ≡ Some (stamp_value stamp)) m.instance
+    (reign.covers (count_of s + 1) (omega arith) ∙ ap (λ (y : code_stamp.Stamp). Some (stamp_value y)) same)
 
 -- the entry
 abbrev entry_of : {v w x : View} {old mid new : OpenSite} {t : code.Transaction} {parts : PartRecords} → Committed v w x old mid new t parts → Entry
-entry_of {t = t} p = entry_for p.enters.entry.stamp t
+entry_of {t = t} p = entry_for p.stamp t
 
 remembers_longer : (v w x : View) (c : Contents) (h : ℕ) (old mid new : OpenSite) (t : code.Transaction) (parts : PartRecords) (p : Committed v w x old mid new t parts) → Remembers c h old → Remembers (longer c (entry_of p)) h new
 remembers_longer v w x c h old mid new t parts p m =
-    let n = p.enters in
     record {
       instance = ap (λ (i : Instance). i.records) (p.instance ∙ p.prepares.same.instance) ∙ m.instance;
-      count = ap length (p.entries ∙ n.entries) ∙ length-append old.entries (entry_value n.entry ∷ []) ∙ ap (λ (k : ℕ). k + 1) m.count ∙ sym (length-append c.sequence (entry_of p ∷ []));
-      globals = globals_more (joined old.globals) (joined new.globals) c.sequence (entry_of p) m.globals (ap joined p.globals ∙ n.globals);
+      count = counts_places parts mid.journals.journals.items mid.entries new.entries p.prepares.ready_after.some_place p.prepares.ready_after.whole p.adds
+          ∙ ap (λ (k : ℕ). k + 1) (same_count old.entries mid.entries p.prepares.entries) ∙ ap (λ (k : ℕ). k + 1) m.count ∙ sym (length-append c.sequence (entry_of p ∷ []));
+      globals = globals_more (joined old.globals) (joined new.globals) c.sequence (entry_of p) m.globals p.made;
       hardened = p.hardened ∙ p.prepares.same.hardened ∙ m.hardened;
     }
-
-entries_longer : (v w x : View) (c : Contents) (old mid new : OpenSite) (t : code.Transaction) (parts : PartRecords) (p : Committed v w x old mid new t parts) → old.entries ≡ c.sequence
-    → new.entries ≡ (c.sequence ++ entry_of p ∷ [])
-entries_longer v w x c old mid new t parts p are =
-    let n = p.enters in
-    let value : entry_value n.entry ≡ entry_of p = ap (λ (y : code.Transaction). record { stamp = stamp_value n.entry.stamp; transaction = transaction_value y }) n.next.transaction in
-    p.entries ∙ n.entries ∙ ap (λ (es : Sequence). es ++ entry_value n.entry ∷ []) are ∙ ap (λ (e : Entry). c.sequence ++ e ∷ []) value
 
 -- its directory is that of the instance file
 directory_of : (v : View) (c : Contents) (h : ℕ) (s : OpenSite) → IsReady v s → Remembers c h s → s.layout.directory.patterns ≡ patterns c.instance
@@ -237,7 +269,7 @@ abbrev region_in : Contents → Update → ℕ
 region_in c = region_of_update (patterns c.instance)
 
 abbrev own_parts : Contents → OpenSite → Transaction → ℕ → Option Part
-own_parts c s t = split (region_in c) (length s.entries + 1) (mask_of (region_in c) t.updates) t
+own_parts c s t = split (region_in c) (count_of s + 1) (mask_of (region_in c) t.updates) t
 
 record AreOwn (c : Contents) (s : OpenSite) (t : Transaction) (parts : PartRecords) : Type 0 where
   each : (r : ℕ) → r < 8 → part_in parts r ≡ recorded (own_parts c s t r)
@@ -249,9 +281,9 @@ are_own v c h s t parts ready m are =
     let same = directory_of v c h s ready m in
     let count : s.layout.directory.regions ≡ length (regions c.instance) = ap (λ (d : Mapping). d.regions) ready.layout.directory ∙ ap (λ (l : List InstanceRecord). length (regions l)) m.instance in
     record {
-      each = λ r low. subst (λ (ps : List Pattern). part_in parts r ≡ recorded (split (region_of_update ps) (length s.entries + 1) (mask_of (region_of_update ps) t.updates) t r)) same (are.each r low);
+      each = λ r low. subst (λ (ps : List Pattern). part_in parts r ≡ recorded (split (region_of_update ps) (count_of s + 1) (mask_of (region_of_update ps) t.updates) t r)) same (are.each r low);
       is_split = subst (λ (ps : List Pattern). IsSplit (region_of_update ps) (mask_of (region_of_update ps) t.updates) t) same are.is_split;
-      no_other = λ r past. subst (λ (ps : List Pattern). split (region_of_update ps) (length s.entries + 1) (mask_of (region_of_update ps) t.updates) t r ≡ None) same (are.no_other r (omega (arith, past, count)));
+      no_other = λ r past. subst (λ (ps : List Pattern). split (region_of_update ps) (count_of s + 1) (mask_of (region_of_update ps) t.updates) t r ≡ None) same (are.no_other r (omega (arith, past, count)));
     }
 
 -- the records that wait then
@@ -277,6 +309,8 @@ keeps_longer v w x c h old mid new t parts p before m lawful lawful_after =
     let own : mid.instance.records ≡ c.instance = own_records v w c h old mid p.prepares m in
     let are = are_own v c h old (transaction_value t) parts p.prepares.ready m p.are_parts in
     let part : (ℕ → Option Part) = own_parts c old (transaction_value t) in
+    let under : stamp_at (count_of old + 1) (reigns c.instance) ≡ Some (stamp_value p.stamp) = stamp_of c h old p.stamp m p.reign p.under in
+    let last : count_of old + 1 ≡ suc (length c.sequence) = (let count = m.count in omega (arith, count)) in
     let in_newest = append_run w x c h mid k ready own p.moments in
     let q = holds_now w x (OnlyIn w (IsNewestFile (suc k.g) (length (regions c.instance))) (HasFirst (suc k.g) (length (regions c.instance)) k.newer (tcoms k.waiting) (λ r. 0))) lawful_after in_newest in
     let stays = p.stays (suc k.g) (newest.are_ready w c h mid k ready own) in
@@ -300,19 +334,27 @@ keeps_longer v w x c h old mid new t parts p before m lawful lawful_after =
           (newest.none_image w c h mid k ready own (q f now).others.0 f (q f now).others.1 (q f now).others.2 (q f now).here));
       older_files = λ f now r here.
           journal_same (q f now).others.0 f r k.g (k.last r) (k.older r) (λ n le. (q f now).others.2 (journal_file n r) (λ i. omega (arith, i.is, i.inside, le, here, few))) (k.older_files (q f now).others.0 (q f now).others.1 r here);
+      older_stand = λ f now r here.
+          stand_same (q f now).others.0 f r k.g (k.older r) (λ n le. (q f now).others.2 (journal_file n r) (λ i. omega (arith, i.is, i.inside, le, here, few))) (k.older_stand (q f now).others.0 (q f now).others.1 r here);
       none_past = k.none_past;
       blocks = λ f now. subst (AreOnBlocks f k.records h) (sym p.globals) (on_same (q f now).others.0 f k.records h mid.globals (λ r here. (q f now).others.2 (database_file r) (λ i. omega (arith, i.is, i.inside, here, few, many))) (k.blocks (q f now).others.0 (q f now).others.1));
       databases = synced_stays w x (IsNewestFile (suc k.g) (length (regions c.instance))) (length (regions c.instance)) (λ f now. (q f now).others) (no_journal (suc k.g) (length (regions c.instance)) (length (regions c.instance)) few) k.databases;
       no_epoch_past = k.no_epoch_past;
       waiting = k.waiting ++ part ∷ [];
       are_waiting = subst (AreEntries c.instance (suc k.g) h (k.waiting ++ part ∷ [])) (sym (drop-append-le h c.sequence (e ∷ []) k.count))
-          (entries.entries_more c.instance (suc k.g) h (length old.entries + 1) k.waiting (drop h c.sequence) (region_in c) (mask_of (region_in c) t.updates) (transaction_value t) (stamp_value p.enters.entry.stamp) k.are_waiting
-          (number_of c h old m k.count) (let same = k.newest.generation in omega (arith, same)) are.is_split (stamp_of c h old p.enters.entry.stamp m p.reign p.enters.next.stamp));
+          (entries.entries_more c.instance (suc k.g) h (count_of old + 1) k.waiting (drop h c.sequence) (region_in c) (mask_of (region_in c) t.updates) (transaction_value t) (stamp_value p.stamp) k.are_waiting
+          (number_of c h old m k.count) (let same = k.newest.generation in omega (arith, same)) are.is_split under);
       are_parts = ap (λ (l : List (ℕ → Option Part)). l ++ part ∷ []) k.are_parts
-          ∙ sym (parts_more (patterns c.instance) h (length old.entries + 1) (drop h c.sequence) e (number_of c h old m k.count))
+          ∙ sym (parts_more (patterns c.instance) h (count_of old + 1) (drop h c.sequence) e (number_of c h old m k.count))
           ∙ ap (parts_of_each (patterns c.instance) h) (sym (drop-append-le h c.sequence (e ∷ []) k.count));
       in_regions = all_both (λ (part : ℕ → Option Part). (r : ℕ) → length (regions c.instance) ≤ r → part r ≡ None) k.waiting (part ∷ []) k.in_regions (are.no_other, tt);
-      at_home = λ r here. entries.all_home c.instance (suc k.g) r (length old.entries + 1) (mask_of (region_in c) t.updates) (transaction_value t) k.waiting (k.at_home r here);
+      at_home = λ r here. entries.all_home c.instance (suc k.g) r (count_of old + 1) (mask_of (region_in c) t.updates) (transaction_value t) k.waiting (k.at_home r here);
+      indexed =
+          let image = one_image w w.content (λ files. IsSite files (with_sequence c (take h c.sequence))) k.reads lawful.as_read in
+          let mask = mask_of (region_in c) t.updates in
+          index_entered w c h mid k ready own image.0 image.1 new.entries parts part e p.adds are.each are.no_other
+          (subst (λ (n : ℕ). AreNumbered n part) last (merging.numbers (region_in c) (count_of old + 1) mask (transaction_value t)))
+          (subst (λ (n : ℕ). entry_with part (stamp_at n (reigns c.instance)) ≡ Some e) last (entries.split_entry (reigns c.instance) (count_of old + 1) (region_in c) mask (transaction_value t) (stamp_value p.stamp) are.is_split under));
       instance_file = instance_kept w x mid new (suc k.g) (length mid.journals.journals.items) c.instance stays p.instance k.instance_file;
       journal_files = waits_longer x k.newer k.waiting part parts new.journals.journals.items (let size = p.count in let low = ready.journals.few in omega (arith, size, low)) are.each (p.state k.newer (tcoms k.waiting) k.journal_files);
     }
@@ -323,17 +365,16 @@ with_entry_is o stamp t c is = ap (λ (y : Option code_stamp.Stamp). with_entry 
 pub open_longer : (v w x : View) (told : Bool) (c : Contents) (h : ℕ) (old mid new : OpenSite) (t : code.Transaction) (parts : PartRecords) → Committed v w x old mid new t parts → IsLawful w → IsLawful x → IsOpen v told c h old
     → IsOpen x told (with_entry old.stamp (transaction_value t) c) h new
 open_longer v w x told c h old mid new t parts p lawful lawful_after is =
-    subst (λ (d : Contents). IsOpen x told d h new) (sym (with_entry_is old.stamp p.enters.entry.stamp (transaction_value t) c p.enters.next.stamp)) (record {
+    subst (λ (d : Contents). IsOpen x told d h new) (sym (with_entry_is old.stamp p.stamp (transaction_value t) c p.under)) (record {
       remembered = remembers_longer v w x c h old mid new t parts p is.remembered;
-      entries = λ known. entries_longer v w x c old mid new t parts p (is.entries known);
       kept = λ known. keeps_longer v w x c h old mid new t parts p (is.kept known) is.remembered lawful lawful_after;
     })
 
 -- open for calls, and under its reign
 pub ready_after : (w x : View) (mid new : OpenSite) → IsReady w mid → ((g : ℕ) → AreReady w g mid.journals.journals.items → AreReady x g new.journals.journals.items) → length new.journals.journals.items ≡ length mid.journals.journals.items
     → ((g : ℕ) → AreReady w g mid.journals.journals.items → OthersStay (IsNewestFile g (length mid.journals.journals.items)) w x) → new.instance ≡ mid.instance → new.layout ≡ mid.layout
-    → AreChanged mid.globals new.globals → length new.entries < 2 ^ 40 → IsReady x new
-ready_after w x mid new ready journals count stays instance layout changed few =
+    → AreChanged mid.globals new.globals → count_of new < 2 ^ 40 → IsWhole new.entries → new.entries.regions ≡ mid.entries.regions → IsReady x new
+ready_after w x mid new ready journals count stays instance layout changed few whole wide =
     let g = generation mid.instance.records in
     let many = length (regions mid.instance.records) in
     let low = ready.journals.few in
@@ -347,14 +388,12 @@ ready_after w x mid new ready journals count stays instance layout changed few =
           (held_changed x many mid.globals new.globals changed
           (held_stays w x (IsNewestFile g (length mid.journals.journals.items)) many mid.globals (stays g ready.journals) (no_journal g (length mid.journals.journals.items) many (omega (arith, low, same))) ready.regions));
       few = few;
+      whole = whole;
+      some_place = subst (λ (n : ℕ). 1 ≤ n) (sym wide) ready.some_place;
+      each_place = wide ∙ ready.each_place ∙ ap (λ (i : Instance). length (regions i.records)) (sym instance);
     }
 
-pub ready_longer : (v w x : View) (old mid new : OpenSite) (t : code.Transaction) (parts : PartRecords) → Committed v w x old mid new t parts → IsReady x new
-ready_longer v w x old mid new t parts p =
-    ready_after w x mid new p.prepares.ready_after p.journals p.count p.stays p.instance p.layout (changed_not mid.globals new.globals p.globals)
-    (subst (λ (l : Sequence). length l < 2 ^ 40) (sym p.entries) p.prepares.ready_after.few)
-
-pub reign_stays : (old new : OpenSite) → HasReign old → new.instance ≡ old.instance → new.stamp ≡ old.stamp → length old.entries ≤ length new.entries → HasReign new
+pub reign_stays : (old new : OpenSite) → HasReign old → new.instance ≡ old.instance → new.stamp ≡ old.stamp → count_of old ≤ count_of new → HasReign new
 reign_stays old new r instance stamp more = record {
   stamp = r.stamp;
   is = stamp ∙ r.is;
@@ -368,10 +407,10 @@ own_stays v w s ready stays = subst (λ (n : ℕ). OthersStay (IsNewestFile (gen
 -- open for calls, with what is prepared
 pub ready_prepared : (v w : View) (old new : OpenSite) (js : RegionJournals) → IsReady v old → ((g : ℕ) → AreReady v g old.journals.journals.items → AreReady w g js.journals.items) → length js.journals.items ≡ length old.journals.journals.items
     → ((g : ℕ) → AreReady v g old.journals.journals.items → OthersStay (IsNewestFile g (length old.journals.journals.items)) v w) → new.journals ≡ js → new.instance ≡ old.instance → new.layout ≡ old.layout
-    → AreChanged old.globals new.globals → length new.entries < 2 ^ 40 → IsReady w new
-ready_prepared v w old new js ready journals count stays is instance layout changed few =
+    → AreChanged old.globals new.globals → count_of new < 2 ^ 40 → IsWhole new.entries → new.entries.regions ≡ old.entries.regions → IsReady w new
+ready_prepared v w old new js ready journals count stays is instance layout changed few whole wide =
     ready_after v w old new ready (subst (λ (k : RegionJournals). (g : ℕ) → AreReady v g old.journals.journals.items → AreReady w g k.journals.items) (sym is) journals)
-    (ap (λ (k : RegionJournals). length k.journals.items) is ∙ count) stays instance layout changed few
+    (ap (λ (k : RegionJournals). length k.journals.items) is ∙ count) stays instance layout changed few whole wide
 
 pub still_prepared : (parts : PartRecords) (new : OpenSite) (js : RegionJournals) → new.journals ≡ js → ArePrepared parts js.journals.items → ArePrepared parts new.journals.journals.items
 still_prepared parts new js is prepared = subst (λ (k : RegionJournals). ArePrepared parts k.journals.items) (sym is) prepared

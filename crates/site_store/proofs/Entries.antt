@@ -3,7 +3,7 @@ use Rattle.std.proofs.Common.{◌≡◌, ◌≤◌, ◌+◌, ℕ, true, List, []
 use Rattle.std.specs.Prelude.{Option, nat_le}
 use Rattle.std.specs.List.{AllByRecursion}
 use Rattle.std.proofs.lemmas.Bool.Decides.{nat_tests}
-use Rattle.global_defs.specs.Entry.{Update, Transaction, Stamp, Entry, Sequence}
+use Rattle.global_defs.specs.Entry.{Update, Transaction, Stamp, Reign, Entry, Sequence}
 use Rattle.global_defs.specs.Prefix.{stamp_at}
 use Rattle.journal_defs.specs.Journal.{Part}
 use Rattle.journal_defs.specs.Instance.{InstanceRecord, Create, Reigned, Cut, Map, Mode, generation}
@@ -36,15 +36,20 @@ entries_longer instance g n m (q ∷ ps) [] p e are is numbered tidy lives whole
 entries_longer instance g n m (q ∷ ps) (x ∷ es) p e are is numbered tidy lives whole =
     (are.0, are.1, are.2, are.3, entries_longer instance g (n + 1) m ps es p e are.4 (omega (arith, is)) numbered tidy lives whole)
 
+-- the entry that a transaction's parts make under this stamp
+pub split_entry : (rs : List Reign) (m : ℕ) (region : Update → ℕ) (mask : ℕ) (t : Transaction) (stamp : Stamp) → IsSplit region mask t → stamp_at m rs ≡ Some stamp
+    → entry_with (split region m mask t) (stamp_at m rs) ≡ Some (record { stamp = stamp; transaction = t })
+split_entry rs m region mask t stamp divided under = ap (entry_with (split region m mask t)) under ∙ merging.entry region m mask t stamp divided
+
 -- the parts of entries, and of one more
 pub entries_more : (instance : List InstanceRecord) (g n m : ℕ) (ps : List (ℕ → Option Part)) (es : Sequence) (region : Update → ℕ) (mask : ℕ) (t : Transaction) (stamp : Stamp) → AreEntries instance g n ps es → m ≡ n + length es + 1 → generation instance ≤ g
     → IsSplit region mask t → stamp_at m (reigns instance) ≡ Some stamp → AreEntries instance g n (ps ++ split region m mask t ∷ []) (es ++ record { stamp = stamp; transaction = t } ∷ [])
 entries_more instance g n m ps es region mask t stamp are is low divided under =
     entries_longer instance g n m ps es (split region m mask t) (record { stamp = stamp; transaction = t }) are is (merging.numbers region m mask t) (merging.tidy region m mask t divided) (survives_newest instance g m low)
-    (ap (entry_with (split region m mask t)) under ∙ merging.entry region m mask t stamp divided)
+    (split_entry (reigns instance) m region mask t stamp divided under)
 
 -- what they append
-appended_more : (g : ℕ) (ps : List (ℕ → Option Part)) (p : ℕ → Option Part) (r : ℕ) → appended g (ps ++ p ∷ []) r ≡ appended g ps r ++ placed g (p r)
+pub appended_more : (g : ℕ) (ps : List (ℕ → Option Part)) (p : ℕ → Option Part) (r : ℕ) → appended g (ps ++ p ∷ []) r ≡ appended g ps r ++ placed g (p r)
 appended_more g [] p r = append-nil (placed g (p r))
 appended_more g (q ∷ ps) p r = ap (λ (l : List Placed). placed g (q r) ++ l) (appended_more g ps p r) ∙ sym (append_assoc (placed g (q r)) (appended g ps r) (placed g (p r)))
 

@@ -6,7 +6,9 @@ use Rattle.site_store.specs.declared.error.SiteError.{SiteError}
 use Rattle.site_store.specs.declared.error.SiteError.TheVariants as error
 use Rattle.region_store.specs.declared.error.RegionError.{RegionError}
 use Rattle.region_store.specs.declared.error.RegionError.TheVariants as regions
-use Rattle.site_store.specs.Errors.{files_error, region_error}
+use Rattle.entry_index.specs.declared.error.IndexError.{IndexError}
+use Rattle.entry_index.specs.declared.error.IndexError.TheVariants as index
+use Rattle.site_store.specs.Errors.{files_error, region_error, index_error}
 
 -- the same error with another result
 pub handed_on : {T U : Type 0} (e x : SiteError) → IsErrOf {T = T} (Err e) x → IsErrOf {T = U} (Err e) x
@@ -89,3 +91,12 @@ no_stop (Err e) (inr none) fault is = cc (none, is)
 pub two_on : {T U : Type 0} (e : SiteError) → ((x : ℕ) × IsErrOf {T = T} (Err e) (error.Failed x)) ⊎ IsErrOf {T = T} (Err e) error.NoMemory → ((x : ℕ) × IsErrOf {T = U} (Err e) (error.Failed x)) ⊎ IsErrOf {T = U} (Err e) error.NoMemory
 two_on e (inl failed) = inl (failed.0, handed_on e (error.Failed failed.0) failed.1)
 two_on e (inr none) = inr (handed_on e error.NoMemory none)
+
+-- what an error of the index was
+pub index_file_was : {T U : Type 0} (fault : ℕ) (x : IndexError) (file offset : ℕ) → IsErrOf {T = T} (Err (index_error fault x)) (error.NotAFile file offset) → IsErrOf {T = U} (Err x) (index.NotAFile file offset)
+index_file_was fault index.Failed file offset is = absurd (cc is)
+index_file_was fault (index.NotAFile f o) file offset is =
+    let one : f ≡ file = cc is in
+    let two : o ≡ offset = cc is in
+    λ i. Err (index.NotAFile (one i) (two i))
+index_file_was fault index.NoMemory file offset is = absurd (cc is)

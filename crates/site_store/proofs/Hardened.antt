@@ -10,7 +10,6 @@ use Rattle.journal_defs.specs.Numbers.{journal_file, database_file}
 use Rattle.journal_defs.specs.Journal.{JournalRecord, IsJournalBody}
 use Rattle.journal_defs.specs.Instance.{InstanceRecord, regions}
 use Rattle.journal_defs.specs.Directory.{patterns}
-use Rattle.global_defs.specs.Entry.{Sequence}
 use Rattle.journal_defs.specs.Sequence.{Records}
 use Rattle.journal_defs.specs.Stands.{Holds}
 use Rattle.journal_defs.specs.Growth.{NonePast, AreEntries, tcoms, appended}
@@ -29,8 +28,13 @@ use Rattle.site_defs.specs.Fronts.{with_sequence, IsFrontOf}
 use Rattle.site_defs.specs.Stands.{IsSite}
 use Rattle.site_store.specs.declared.site.OpenSite.{OpenSite}
 use Rattle.site_regions.specs.Joined.{joined}
-use Rattle.site_store.specs.Site.{Remembers, IsReady, Keeps, IsOpen, AreOnBlocks}
+use Rattle.site_store.specs.Site.{Remembers, IsReady, Keeps, IsOpen, AreOnBlocks, count_of}
 use Rattle.site_store.proofs.Remembered.{remembered_length}
+use Rattle.entry_index.specs.declared.index.EntryIndex.{EntryIndex}
+use Rattle.entry_index.specs.Found.{entry_count, IsWhole}
+use Rattle.entry_index.specs.Among.{IsIndexOf}
+use Rattle.entry_index.proofs.AmongLaws.{index_behind}
+use Rattle.site_store.proofs.Indexing.{stand_same}
 use Rattle.site_store.proofs.Standing.{reads_of, reads_so, told_of, still}
 use Rattle.site_store.proofs.Committed.{instance_kept, ready_after}
 use Rattle.site_store.proofs.Waiting as waiting
@@ -38,6 +42,7 @@ use Rattle.site_store.proofs.Newest as newest
 use Rattle.site_store.proofs.HeldRegions.{changed_not, no_journal, synced_stays}
 use Rattle.site_store.proofs.OnBlocks.{on_same, on_more, on_chosen, parts_plain}
 use Rattle.site_store.proofs.Parts.{no_entry_no_part}
+use Rattle.journal_defs.specs.Surviving.{reigns}
 
 -- each moment of a hardening of these journals
 abbrev pub HardenMoments : View → View → List RegionJournal → Type 0
@@ -78,12 +83,12 @@ pub record Hardens (v w : View) (old new : OpenSite) : Type 0 where
   pub layout : new.layout ≡ old.layout
   pub entries : new.entries ≡ old.entries
   pub globals : new.globals ≡ old.globals
-  pub hardened : new.hardened ≡ length old.entries
+  pub hardened : new.hardened ≡ count_of old
 
 pub ready_hardened : (v w : View) (old new : OpenSite) → Hardens v w old new → IsReady w new
 ready_hardened v w old new p =
     ready_after v w old new p.ready p.journals p.count p.stays p.instance p.layout (changed_not old.globals new.globals p.globals)
-    (subst (λ (l : Sequence). length l < 2 ^ 40) (sym p.entries) p.ready.few)
+    (subst (λ (i : EntryIndex). entry_count i < 2 ^ 40) (sym p.entries) p.ready.few) (subst IsWhole (sym p.entries) p.ready.whole) (ap (λ (i : EntryIndex). i.regions) p.entries)
 
 module _ (v w : View) (c : Contents) (h : ℕ) (old new : OpenSite) (p : Hardens v w old new) (lawful : IsLawful w) (k : Keeps v c h old) (m : Remembers c h old) where
   own : old.instance.records ≡ c.instance
@@ -165,6 +170,9 @@ module _ (v w : View) (c : Contents) (h : ℕ) (old new : OpenSite) (p : Hardens
     older_files = λ f now r here.
         let low = few in
         journal_same (stays.images f now).0 f r k.g (k.last r) (k.older r) (λ n le. outside f now (journal_file n r) (λ i. omega (arith, i.is, i.inside, le, here, low))) (k.older_files (stays.images f now).0 (stays.images f now).1 r here);
+    older_stand = λ f now r here.
+        let low = few in
+        stand_same (stays.images f now).0 f r k.g (k.older r) (λ n le. outside f now (journal_file n r) (λ i. omega (arith, i.is, i.inside, le, here, low))) (k.older_stand (stays.images f now).0 (stays.images f now).1 r here);
     none_past =
         let rest = length-drop h c.sequence in
         let low = k.count in
@@ -177,6 +185,8 @@ module _ (v w : View) (c : Contents) (h : ℕ) (old new : OpenSite) (p : Hardens
     are_waiting = subst (AreEntries c.instance (suc k.g) (length c.sequence) []) (sym (drop-length c.sequence)) tt;
     are_parts = no_entry_no_part (patterns c.instance) c.sequence;
     in_regions = tt;
+    indexed = subst (λ (i : EntryIndex). IsIndexOf (λ r. all.journal r ++ []) (reigns c.instance) i c.sequence) (sym p.entries)
+        (index_behind (λ r. k.records.journal r ++ appended (suc k.g) k.waiting r) (λ r. all.journal r ++ []) (reigns c.instance) old.entries c.sequence (λ r low. ([], refl)) k.indexed);
     at_home = λ r here. tt;
     instance_file = instance_kept v w old new (suc k.g) (length old.journals.journals.items) c.instance stays p.instance k.instance_file;
     journal_files = record { has = λ r y is. state.has r y is; none_waits = λ r y is none. refl };
@@ -186,10 +196,9 @@ pub open_hardened : (v w : View) (told : Bool) (c : Contents) (h : ℕ) (old new
 open_hardened v w told c h old new p lawful is = record {
   remembered = record {
     instance = ap (λ (i : Instance). i.records) p.instance ∙ is.remembered.instance;
-    count = ap length p.entries ∙ is.remembered.count;
+    count = ap entry_count p.entries ∙ is.remembered.count;
     globals = ap joined p.globals ∙ is.remembered.globals;
     hardened = p.hardened ∙ remembered_length c h old is.remembered;
   };
-  entries = λ known. p.entries ∙ is.entries known;
   kept = λ known. keeps_hardened v w c h old new p lawful (is.kept known) is.remembered;
 }

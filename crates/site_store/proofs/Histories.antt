@@ -46,22 +46,25 @@ no_records o none = weaker_told o HoldNoSite (λ files. (c : Contents) → IsSit
 abbrev by_length : List Reign → ℕ → List Reign
 by_length rs n = filter (λ (r : Reign). nat_le r.start n) rs
 
--- what was read is the history of the records that the files hold
-pub history_told : (o : Option Files) (s : Records) (seq : Sequence) (n : ℕ) (h : History) → IfSome o (λ files. AreRecords files s) → IsSequence s seq → n ≡ length seq → h.length ≡ n → h.reigns ≡ filter (λ r. nat_le r.start n) (reigns s.instance)
-    → IfSome o (λ files. (t : Records) (other : Sequence) → AreRecords files t → IsSequence t other → IsHistory t other h)
-history_told o s seq n h held sequence count long made = weaker_told o (λ files. AreRecords files s) (λ files. (t : Records) (other : Sequence) → AreRecords files t → IsSequence t other → IsHistory t other h) held (λ files own t other holds is.
-    let same = records_one files t s holds own in
-    let seqs : other ≡ seq = runs.one s other seq (subst (λ (u : Records). IsSequence u other) same is) sequence in
-    let records : t.instance ≡ s.instance = ap (λ (u : Records). u.instance) same in
-    let many : n ≡ length other = count ∙ ap length (sym seqs) in
-    record {
-      count = long ∙ many;
-      made_in = made ∙ ap (by_length (reigns s.instance)) many ∙ ap (λ (l : List InstanceRecord). by_length (reigns l) (length other)) (sym records);
-    })
+-- the files hold records that stand for so many entries
+abbrev pub HoldEntries : List InstanceRecord → ℕ → Files → Type 0
+HoldEntries rs n files = (s : Records) × (s.instance ≡ rs) × AreRecords files s × (seq : Sequence) × IsSequence s seq × (n ≡ length seq)
 
--- and so of the site that stands there
-pub history_read : (o : Option Files) (s : Records) (seq : Sequence) (n : ℕ) (h : History) → IfSome o (λ files. AreRecords files s) → IsSequence s seq → n ≡ length seq → h.length ≡ n → h.reigns ≡ filter (λ r. nat_le r.start n) (reigns s.instance)
-    → IfSome o (λ files. (c : Contents) → IsSite files c → IsHistoryOf c h)
-history_read o s seq n h held sequence count long made = weaker_told o (λ files. (t : Records) (other : Sequence) → AreRecords files t → IsSequence t other → IsHistory t other h) (λ files. (c : Contents) → IsSite files c → IsHistoryOf c h) (history_told o s seq n h held sequence count long made) (λ files told c site.
-    let own = told site.records c.sequence site.image.held site.image.sequence in
-    record { count = own.count; made_in = own.made_in ∙ ap (λ (l : List InstanceRecord). by_length (reigns l) (length c.sequence)) site.instance })
+-- what was read is the history of the records that the files hold
+module _ (o : Option Files) (rs : List InstanceRecord) (n : ℕ) (h : History) (held : IfSome o (HoldEntries rs n)) (long : h.length ≡ n) (made : h.reigns ≡ filter (λ r. nat_le r.start n) (reigns rs)) where
+  pub history_told : IfSome o (λ files. (t : Records) (other : Sequence) → AreRecords files t → IsSequence t other → IsHistory t other h)
+  history_told = weaker_told o (HoldEntries rs n) (λ files. (t : Records) (other : Sequence) → AreRecords files t → IsSequence t other → IsHistory t other h) held (λ files x t other holds is.
+      let same = records_one files t x.0 holds x.2 in
+      let seqs : other ≡ x.3 = runs.one x.0 other x.3 (subst (λ (u : Records). IsSequence u other) same is) x.4 in
+      let records : t.instance ≡ rs = ap (λ (u : Records). u.instance) same ∙ x.1 in
+      let many : n ≡ length other = x.5 ∙ ap length (sym seqs) in
+      record {
+        count = long ∙ many;
+        made_in = made ∙ ap (by_length (reigns rs)) many ∙ ap (λ (l : List InstanceRecord). by_length (reigns l) (length other)) (sym records);
+      })
+
+  -- and so of the site that stands there
+  pub history_read : IfSome o (λ files. (c : Contents) → IsSite files c → IsHistoryOf c h)
+  history_read = weaker_told o (λ files. (t : Records) (other : Sequence) → AreRecords files t → IsSequence t other → IsHistory t other h) (λ files. (c : Contents) → IsSite files c → IsHistoryOf c h) history_told (λ files told c site.
+      let own = told site.records c.sequence site.image.held site.image.sequence in
+      record { count = own.count; made_in = own.made_in ∙ ap (λ (l : List InstanceRecord). by_length (reigns l) (length c.sequence)) site.instance })

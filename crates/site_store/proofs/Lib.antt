@@ -4,7 +4,6 @@ pub mod Emptied
 pub mod Frames
 pub mod Remembered
 pub mod Stood
-pub mod FormsRead
 pub mod OnBlocks
 pub mod HeldRegions
 pub mod Begun
@@ -35,9 +34,14 @@ pub mod OpenedTo
 pub mod Loaded
 pub mod Founded
 pub mod Rolled
-pub mod CutOff
 pub mod Mapped
 pub mod Unwritten
 pub mod Owned
 pub mod Histories
 pub mod Pieces
+pub mod TheFiles
+pub mod Shown
+pub mod ReadFiles
+pub mod Places
+pub mod Indexing
+pub mod Indexed

@@ -1,5 +1,5 @@
 -- A site is opened.
-use Rattle.std.proofs.Common.{◌≡◌, inl, ℕ, zero, suc, ◌+◌, ◌≤◌, ◌<◌, ◌^◌, Bool, true, false, List, [], ◌∷◌, ◌++◌, length, map, Option, Some, None, IfSome, refl, sym, ◌∙◌, ap, subst, arith, append-nil}
+use Rattle.std.proofs.Common.{◌≡◌, inl, ℕ, zero, suc, ◌+◌, ◌≤◌, ◌<◌, Bool, true, false, List, [], ◌∷◌, ◌++◌, length, map, Option, Some, None, IfSome, refl, sym, ◌∙◌, ap, subst, arith, append-nil}
 use Rattle.std.specs.Prelude.{◌^◌, filter, nat_le, fold, replicate, slice_get, if◌then◌else◌}
 use Rattle.std.specs.List.{AllByRecursion, flat_map}
 use Rattle.std.proofs.lemmas.Bool.Decides.{nat_tests}
@@ -34,34 +34,39 @@ use Rattle.site_defs.specs.Stands.{IsSite, HasLeft}
 use Rattle.site_store.specs.declared.site.OpenSite.{OpenSite}
 use Rattle.site_store.specs.Finding.{HasLayout}
 use Rattle.site_regions.specs.Joined.{joined}
-use Rattle.site_store.specs.Site.{Remembers, AreHeld, IsReady, IsOpen, StandOn, WasOpened, WasOpenedFrom}
+use Rattle.site_store.specs.Site.{Remembers, AreHeld, IsReady, IsOpen, StandOn, WasOpened, WasOpenedFrom, count_of}
 use Rattle.site_store.specs.Opening.{MayBeOpenAs, MayBeOpenWithAs, EachStands, AreTextsDurable, AreDatabasesDurable}
+use Rattle.site_store.proofs.Indexing.{stand_images}
 use Rattle.site_store.proofs.OnBlocks.{stand_same}
 use Rattle.site_store.proofs.Found.{instance_one}
 use Rattle.site_store.proofs.Drawn.{S, C, text, site_read, left_read, site_either, standing_either, draws_all}
 use Rattle.site_store.proofs.Alike.{image_sound, image_site}
 use Rattle.site_store.proofs.OpenedTo.{newly, newly_at, open_to}
+use Rattle.entry_index.specs.Found.{IsWhole}
+use Rattle.entry_index.specs.Among.{IsIndexOf}
+use Rattle.jnl_index.specs.Order.{StandUpTo}
 
 -- what was opened is what any records of the files stand for
 pub opened_from : (o : Option Files) (v : View) (rs : List InstanceRecord) (last : ℕ → ℕ) (journal : ℕ → List Placed) (seq : Sequence) (s : OpenSite) → IfSome o (WasRead v rs last journal) → IsSequence (record { instance = rs; journal = journal }) seq
-    → s.entries ≡ seq → s.instance.records ≡ rs ++ next_cut rs (length seq) ∷ []
+    → count_of s ≡ length seq → s.instance.records ≡ rs ++ next_cut rs (length seq) ∷ [] → IsIndexOf journal (reigns rs) s.entries seq
     → IfSome o (λ files. (u : Records) (other : Sequence) → AreRecords files u → IsSequence u other → WasOpenedFrom u other s)
-opened_from o v rs last journal seq s read sequence entries records = weaker_told o (WasRead v rs last journal) (λ files. (u : Records) (other : Sequence) → AreRecords files u → IsSequence u other → WasOpenedFrom u other s) read (λ files was u other held is.
+opened_from o v rs last journal seq s read sequence count records indexed = weaker_told o (WasRead v rs last journal) (λ files. (u : Records) (other : Sequence) → AreRecords files u → IsSequence u other → WasOpenedFrom u other s) read (λ files was u other held is.
     let own : Records = record { instance = rs; journal = journal } in
     let same = records_one files u own held (held_read rs last journal files was.holds) in
     let seqs : other ≡ seq = runs.one own other seq (subst (λ (x : Records). IsSequence x other) same is) sequence in
     let first : u.instance ≡ rs = ap (λ (x : Records). x.instance) same in
     record {
-      entries = entries ∙ sym seqs;
+      count = count ∙ ap length (sym seqs);
+      indexed = subst (λ (q : Sequence). IsIndexOf u.journal (reigns u.instance) s.entries q) (sym seqs) (subst (λ (x : Records). IsIndexOf x.journal (reigns x.instance) s.entries seq) (sym same) indexed);
       instance = records ∙ ap (λ (l : List InstanceRecord). l ++ next_cut l (length seq) ∷ []) (sym first) ∙ ap (λ (q : Sequence). u.instance ++ next_cut u.instance (length q) ∷ []) (sym seqs);
     })
 
 -- and what was read is such records
 pub held_from : (P : Records → Sequence → Type 0) (o : Option Files) (v : View) (rs : List InstanceRecord) (last : ℕ → ℕ) (journal : ℕ → List Placed) (seq : Sequence) (s : OpenSite) → IfSome o (WasRead v rs last journal) → IsSequence (record { instance = rs; journal = journal }) seq
-    → s.entries ≡ seq → s.instance.records ≡ rs ++ next_cut rs (length seq) ∷ []
+    → count_of s ≡ length seq → s.instance.records ≡ rs ++ next_cut rs (length seq) ∷ [] → IsIndexOf journal (reigns rs) s.entries seq
     → P (record { instance = rs; journal = journal }) seq → IfSome o (λ files. (u : Records) × (other : Sequence) × AreRecords files u × IsSequence u other × WasOpenedFrom u other s × P u other)
-held_from P o v rs last journal seq s read sequence entries records is = weaker_told o (WasRead v rs last journal) (λ files. (u : Records) × (other : Sequence) × AreRecords files u × IsSequence u other × WasOpenedFrom u other s × P u other) read (λ files was.
-    (record { instance = rs; journal = journal }, seq, held_read rs last journal files was.holds, sequence, record { entries = entries; instance = records }, is))
+held_from P o v rs last journal seq s read sequence count records indexed is = weaker_told o (WasRead v rs last journal) (λ files. (u : Records) × (other : Sequence) × AreRecords files u × IsSequence u other × WasOpenedFrom u other s × P u other) read (λ files was.
+    (record { instance = rs; journal = journal }, seq, held_read rs last journal files was.holds, sequence, record { count = count; indexed = indexed; instance = records }, is))
 
 -- nothing was written
 abbrev pub Moments : (anew : Bool) → View → View → Files → Type 0
@@ -142,15 +147,31 @@ stretched (suc n) es g is none = (
   is ∙ ap (fold apply globals.empty) (sym (append-nil (updates_in es))) ∙ ap (λ (us : List Update). fold apply globals.empty (updates_in es ++ us)) (sym (no_updates n)),
 )
 
+-- whatever the disk tells, a site has as many entries as some that lead to its nodes
+pub remembers_some : (anew : Bool) (rs : List InstanceRecord) (n : ℕ) (s : OpenSite) → s.instance.records ≡ rs ++ next_cut rs n ∷ [] → count_of s ≡ n → s.hardened ≡ n
+    → (es : Sequence) → joined s.globals ≡ state es → (n ≡ 0 → joined s.globals ≡ globals.empty) → (c : Contents) × (t : List ℕ) × Remembers (opened_as anew t c) (length c.sequence) s
+remembers_some anew rs n s records count hardened es is none =
+    let as_long = stretched n es (joined s.globals) is none in
+    let size : n ≡ length as_long.0 = sym as_long.1 in (
+      record { instance = rs; starts = λ r. []; epochs = λ r. []; texts = []; losts = []; sequence = as_long.0 },
+      [],
+      record {
+        instance = records ∙ ap (λ (m : ℕ). rs ++ next_cut rs m ∷ []) size;
+        count = count ∙ size;
+        globals = as_long.2;
+        hardened = hardened ∙ size;
+      },
+    )
+
 module _ (rs : List InstanceRecord) (last : ℕ → ℕ) (form : MayBeOpened rs last) (s : OpenSite) (n : ℕ) (records : s.instance.records ≡ rs ++ next_cut rs n ∷ []) where
-  pub was_opened : n ≡ length s.entries → s.hardened ≡ length s.entries → length s.entries < 2 ^ 40 → s.stamp ≡ None → WasOpened s
+  pub was_opened : n ≡ count_of s → s.hardened ≡ count_of s → count_of s < 2 ^ 40 → s.stamp ≡ None → WasOpened s
   was_opened count hardened few none = record {
     created = subst (λ (l : List InstanceRecord). 0 < length l) (sym records) (longer rs (next_cut rs n));
     name = subst (λ (l : List InstanceRecord). IsSiteName (site_name l)) (sym records) (name_of rs (next_cut rs n) form.some form.order.ordered.create form.form);
     hardened = hardened;
     few = few;
-    no_reign_past = subst (λ (l : List InstanceRecord). AllByRecursion (λ (r : Reign). r.start ≤ length s.entries) (reigns l)) (sym records)
-        (subst (λ (l : List Reign). AllByRecursion (λ (r : Reign). r.start ≤ length s.entries) l) (sym (runs.reigns-cut rs n (generation rs + 1)))
+    no_reign_past = subst (λ (l : List InstanceRecord). AllByRecursion (λ (r : Reign). r.start ≤ count_of s) (reigns l)) (sym records)
+        (subst (λ (l : List Reign). AllByRecursion (λ (r : Reign). r.start ≤ count_of s) l) (sym (runs.reigns-cut rs n (generation rs + 1)))
         (subst (λ (k : ℕ). AllByRecursion (λ (r : Reign). r.start ≤ k) (filter (λ (r : Reign). nat_le r.start n) (reigns rs))) count (within n (reigns rs))));
     no_reign = none;
   }
@@ -169,8 +190,8 @@ module _ (rs : List InstanceRecord) (last : ℕ → ℕ) (form : MayBeOpened rs 
     number_is = ap length js_are ∙ length-map begun newly ∙ number
 
     pub is_ready : instances.IsReady w s.instance → HasLayout (rs ++ next_cut rs n ∷ []) s.layout → ((r : ℕ) (j : Journal) → slice_get begun r ≡ Some j → journals.IsReady w j × journals.IsJournalOf j r (suc (generation rs)))
-        → AreHeld w (length (regions rs)) s.globals → length s.entries < 2 ^ 40 → IsReady w s
-    is_ready instance layout each held few = record {
+        → AreHeld w (length (regions rs)) s.globals → count_of s < 2 ^ 40 → IsWhole s.entries → s.entries.regions ≡ length (regions rs) → IsReady w s
+    is_ready instance layout each held few whole wide = record {
       instance = instance;
       layout = subst (λ (l : List InstanceRecord). HasLayout l s.layout) (sym records) layout;
       journals = record {
@@ -184,6 +205,9 @@ module _ (rs : List InstanceRecord) (last : ℕ → ℕ) (form : MayBeOpened rs 
       each_region = number_is ∙ ap length (sym regions_are);
       regions = subst (λ (n : ℕ). AreHeld w n s.globals) (sym (ap length regions_are)) held;
       few = few;
+      whole = whole;
+      some_place = (let some = form.some_region in omega (arith, wide, some));
+      each_place = wide ∙ ap length (sym regions_are);
     }
 
 -- a site that was read at v, and drawn at w
@@ -268,40 +292,25 @@ module _ (anew : Bool) (u v w : View) (rs : List InstanceRecord) (last : ℕ →
   sound_image : (files : Files) → WasRead v rs last journal files → EachStands u → (d : Files) → Image v d → IsSoundImage d S0 seq
   sound_image files r each d image = image_sound v rs last journal seq form sequence files r d image (each d (earlier d image)).0 (each d (earlier d image)).1
 
-  module _ (s : OpenSite) (records : s.instance.records ≡ rs ++ next_cut rs (length seq) ∷ []) (entries : s.entries ≡ seq) (hardened : s.hardened ≡ length seq) where
-    count : length s.entries ≡ length seq
-    count = ap length entries
-
-    -- whatever the disk tells, it has as many entries as some that lead to its nodes
-    pub remembers_some : (es : Sequence) → joined s.globals ≡ state es → (length seq ≡ 0 → joined s.globals ≡ globals.empty) → (c : Contents) × (t : List ℕ) × Remembers (opened_as anew t c) (length c.sequence) s
-    remembers_some es is none =
-        let as_long = stretched (length seq) es (joined s.globals) is none in
-        let size : length seq ≡ length as_long.0 = sym as_long.1 in (
-          record { instance = rs; starts = λ r. []; epochs = λ r. []; texts = []; losts = []; sequence = as_long.0 },
-          [],
-          record {
-            instance = records ∙ ap (λ (n : ℕ). rs ++ next_cut rs n ∷ []) size;
-            count = count ∙ size;
-            globals = as_long.2;
-            hardened = hardened ∙ size;
-          },
-        )
-
+  module _ (s : OpenSite) (records : s.instance.records ≡ rs ++ next_cut rs (length seq) ∷ []) (count : count_of s ≡ length seq) (indexed : IsIndexOf journal (reigns rs) s.entries seq) (hardened : s.hardened ≡ length seq) where
     module _ (begun : List Journal) (js_are : s.journals.journals.items ≡ map newly begun) where
+      abbrev pub AreAllStanding : Files → Type 0
+      AreAllStanding files = (r : ℕ) → r < length (regions rs) → StandUpTo files r (generation rs) (journal r)
+
       abbrev pub Begun : Type 0
       Begun = (r : ℕ) (j : Journal) → slice_get begun r ≡ Some j → journals.HasRecords w j (settled (next_pini_as anew rs last r ∷ []))
 
-      is_open_all : (files : Files) → WasRead v rs last journal files → AreTextsDurable v (generation rs) files → AreDatabasesDurable v (length (regions rs)) files → StandOn anew files S0 (length seq) s.globals → joined s.globals ≡ state seq
+      is_open_all : (files : Files) → WasRead v rs last journal files → AreTextsDurable v (generation rs) files → AreDatabasesDurable v (length (regions rs)) files → StandOn anew files S0 (length seq) s.globals → joined s.globals ≡ state seq → AreAllStanding files
           → EachStands u → ((f : Files) → Image w f → Finished f) → instances.HasRecords w s.instance (rs ++ next_cut rs (length seq) ∷ []) → Begun → IsOpen w true (opened_as anew broken (C0 files)) (length seq) s
-      is_open_all files r durable databases on globals each drawn instance has =
+      is_open_all files r durable databases on globals stand each drawn instance has =
           open_to anew v w rs last journal seq form sequence lawful_w (λ f image. image_read v rs last journal files r f image) (C0 files)
           (λ f image. image_site v rs last journal seq form sequence files r durable f image (each f (earlier f image)).0 (each f (earlier f image)).1)
           (length seq) seq refl broken (λ f image. draws_all rs last journal seq form sequence anew f broken (image_read v rs last journal files r f image) (sound_image files r each f image) broken_is)
-          s records entries hardened begun js_are (λ f d i j q low. databases q low d j ∙ sym (databases q low f i))
+          s records count indexed (λ f image q low. stand_images v files q (generation rs) (journal q) (r.journals q low) (stand q low) f image) hardened begun js_are (λ f d i j q low. databases q low d j ∙ sym (databases q low f i))
           (λ f image. stand_same anew files f S0 (length seq) s.globals (λ q low. databases q low f image) on) globals drawn instance has
 
       abbrev pub Whole : Files → Type 0
-      Whole files = WasRead v rs last journal files × AreTextsDurable v (generation rs) files × AreDatabasesDurable v (length (regions rs)) files × StandOn anew files S0 (length seq) s.globals × (IsSoundImage files S0 seq → joined s.globals ≡ state seq)
+      Whole files = WasRead v rs last journal files × AreTextsDurable v (generation rs) files × AreDatabasesDurable v (length (regions rs)) files × StandOn anew files S0 (length seq) s.globals × (IsSoundImage files S0 seq → joined s.globals ≡ state seq) × AreAllStanding files
 
       abbrev pub Given : Files → Type 0
       Given files = (IsShort files → (f : Files) → Image w f → Finished f) × instances.HasRecords w s.instance (rs ++ next_cut rs (length seq) ∷ []) × Begun
@@ -313,4 +322,4 @@ module _ (anew : Bool) (u v w : View) (rs : List InstanceRecord) (last : ℕ →
       is_open whole given = both_weak u.content Whole Given Opens whole (told_at u.content v.content Given same given) (λ files a g c left site has_left each.
           let is = site_read rs last journal seq form sequence files c a.0.holds site in
           subst (λ (b : List ℕ). IsOpen w true (opened_as anew b c) (length c.sequence) s) (left_is files c left a.0.holds site has_left)
-          (subst (λ (x : Contents). IsOpen w true (opened_as anew broken x) (length x.sequence) s) (sym is.1) (is_open_all files a.0 a.1 a.2 a.3 (a.4 is.0) each (g.0 (short files is.0)) g.1 g.2)))
+          (subst (λ (x : Contents). IsOpen w true (opened_as anew broken x) (length x.sequence) s) (sym is.1) (is_open_all files a.0 a.1 a.2 a.3 (a.4 is.0) a.5 each (g.0 (short files is.0)) g.1 g.2)))

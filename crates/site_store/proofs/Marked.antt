@@ -1,5 +1,5 @@
 -- A site that is brought to an epoch.
-use Rattle.std.proofs.Common.{◌≡◌, ◌⊎◌, inl, inr, ℕ, suc, ◌≤◌, ◌<◌, Bool, true, List, [], ◌++◌, length, map, take, drop, Option, None, Some, refl, sym, ◌∙◌, ap, subst, arith, append_assoc}
+use Rattle.std.proofs.Common.{◌≡◌, ◌⊎◌, inl, inr, ℕ, suc, ◌≤◌, ◌<◌, Bool, true, List, [], ◌++◌, length, map, take, drop, Option, None, Some, refl, sym, ◌∙◌, ap, subst, arith, append_assoc, append-nil}
 use Rattle.std.specs.Prelude.{◌^◌, ◌==◌, ◌&&◌, false, nat_lt, IfSome, IsSome}
 use Rattle.std.specs.FinMap as globals
 use Rattle.std.proofs.lemmas.Bool.{cases_lt}
@@ -12,12 +12,12 @@ use Rattle.disk_defs.specs.Frames.{OthersStay, OnlyIn}
 use Rattle.disk_defs.proofs.Moments.{weaker, holds_now}
 use Rattle.global_defs.specs.Entry.{Globals, Sequence, state}
 use Rattle.journal_defs.specs.Numbers.{INSTANCE, journal_file}
-use Rattle.journal_defs.specs.Journal.{JournalRecord}
+use Rattle.journal_defs.specs.Journal.{JournalRecord, Part}
 use Rattle.journal_defs.specs.Instance.{InstanceRecord, generation, regions}
 use Rattle.journal_defs.specs.Directory.{Pattern, patterns, region_of}
 use Rattle.journal_defs.specs.Sequence.{Placed, Records}
 use Rattle.journal_defs.specs.Stands.{in_generation}
-use Rattle.journal_defs.specs.Growth.{AreEntries, tcoms}
+use Rattle.journal_defs.specs.Growth.{AreEntries, tcoms, appended}
 use Rattle.journal_defs.specs.Epochs.{chosen, first_without}
 use Rattle.journal_defs.specs.Sound.{region_state, NoEpochPast}
 use Rattle.journal_defs.specs.Fit.{IsSoundImage}
@@ -44,7 +44,7 @@ use Rattle.site_defs.specs.Stands.{IsSite}
 use Rattle.site_defs.specs.Behind.{IsSiteWith}
 use Rattle.site_store.specs.declared.site.OpenSite.{OpenSite}
 use Rattle.site_store.specs.Needing.{without_behind, NoneNeeds}
-use Rattle.site_store.specs.Site.{Remembers, AreHeld, IsReady, AreOnBlocks, Keeps, IsOpen}
+use Rattle.site_store.specs.Site.{Remembers, AreHeld, IsReady, AreOnBlocks, Keeps, IsOpen, count_of}
 use Rattle.site_store.proofs.Frames as frames
 use Rattle.site_store.proofs.Standing.{reads_of, reads_so, told_of, still}
 use Rattle.site_store.proofs.Begun.{none_waiting}
@@ -56,6 +56,12 @@ use Rattle.site_store.proofs.Fronted as fronted
 use Rattle.site_store.proofs.Fronted.{has_epoch, one_if}
 use Rattle.site_store.specs.Finding.{HasLayout}
 use Rattle.block_laws.specs.Nodes.{union}
+use Rattle.entry_index.specs.Found.{entry_count, IsWhole}
+use Rattle.entry_index.specs.Among.{IsIndexOf}
+use Rattle.entry_index.specs.declared.index.EntryIndex.{EntryIndex}
+use Rattle.entry_index.proofs.AmongLaws.{index_behind}
+use Rattle.journal_defs.specs.Surviving.{reigns}
+use Rattle.site_store.proofs.Indexing.{stand_same}
 
 -- what an epoch may change is no instance file, no text and no older journal
 away_instance : (g n : ℕ) → IsEpochFile g n INSTANCE → ⊥
@@ -145,18 +151,18 @@ module _ (v : View) (c : Contents) (s : OpenSite) (k : Keeps v c (length c.seque
 -- At each moment of an epoch.
 abbrev pub EpochMoments : View → View → OpenSite → Type 0
 EpochMoments v w s = (u : Records) (seq : Sequence) (g : ℕ) (newer : ℕ → List JournalRecord) → IsKept v u seq g newer s.journals.journals.items s.globals
-    → length seq ≡ length s.entries → AtEachMoment v w (OnlyIn v (IsEpochFile (suc g) (length s.journals.journals.items)) (IsStillSound u seq (suc g)))
+    → length seq ≡ count_of s → AtEachMoment v w (OnlyIn v (IsEpochFile (suc g) (length s.journals.journals.items)) (IsStillSound u seq (suc g)))
 
 -- And behind it.
 abbrev pub EpochTaken : View → View → Bool → OpenSite → OpenSite → Type 0
 EpochTaken v w closing s new = (u : Records) (seq : Sequence) (g : ℕ) (newer : ℕ → List JournalRecord) → IsKept v u seq g newer s.journals.journals.items s.globals
-    → length seq ≡ length s.entries → IsTaken w closing u seq g newer new.journals.journals.items new.globals
+    → length seq ≡ count_of s → IsTaken w closing u seq g newer new.journals.journals.items new.globals
 
 module _ (v w : View) (c : Contents) (s : OpenSite) (k : Keeps v c (length c.sequence) s) (mine : Remembers c (length c.sequence) s) (ready : IsReady v s) (are : AreJoined s.globals) (lawful : IsLawful v) (lawful_after : IsLawful w) where
   few : length s.journals.journals.items ≤ 8
   few = ready.journals.few
 
-  count : length c.sequence ≡ length s.entries
+  count : length c.sequence ≡ count_of s
   count = sym mine.count
 
   abbrev F : ℕ → Type 0
@@ -189,7 +195,7 @@ module _ (v w : View) (c : Contents) (s : OpenSite) (k : Keeps v c (length c.seq
     marks_stands = reads_of w (λ f. (x : Contents) × MayMark c x × IsSite f x) lawful_after (holds_now v w (λ f. (x : Contents) × MayMark c x × IsSite f x) lawful_after marks_moments)
 
   -- Once all regions have their epochs.
-  module _ (closing : Bool) (new : OpenSite) (t : IsTaken w closing k.records c.sequence k.g k.newer new.journals.journals.items new.globals) (stays : OthersStay F v w) (same : HasSameNodes s.globals new.globals) (instance : new.instance ≡ s.instance) where
+  module _ (closing : Bool) (new : OpenSite) (t : IsTaken w closing k.records c.sequence k.g k.newer new.journals.journals.items new.globals) (stays : OthersStay F v w) (same : HasSameNodes s.globals new.globals) (instance : new.instance ≡ s.instance) (entries : new.entries ≡ s.entries) where
     abbrev here_too : (r : ℕ) → Type 0
     here_too r = r < length (regions c.instance)
 
@@ -248,6 +254,13 @@ module _ (v w : View) (c : Contents) (s : OpenSite) (k : Keeps v c (length c.seq
       | inr d ↦ (let at = d.is in let inside = d.inside in omega (arith, at, inside, low))
     ]
 
+    -- no entry waits, so images and marks stand right behind the records
+    marks_behind : (r : ℕ) → t.records.journal r ++ [] ≡ (k.records.journal r ++ appended (suc k.g) k.waiting r) ++ map (in_generation (suc k.g)) (t.more.more r)
+    marks_behind r =
+        let none : k.waiting ≡ [] = none_waiting c.instance (suc k.g) (length c.sequence) k.waiting (drop (length c.sequence) c.sequence) (drop-length c.sequence) k.are_waiting in
+        append-nil (t.records.journal r) ∙ t.more.journal r
+        ∙ ap (λ (l : List Placed). l ++ map (in_generation (suc k.g)) (t.more.more r)) (sym (append-nil (k.records.journal r)) ∙ ap (λ (ps : List (ℕ → Option Part)). k.records.journal r ++ appended (suc k.g) ps r) (sym none))
+
     pub keeps_taken : Keeps w (marked c) (length c.sequence) new
     keeps_taken = record {
       count = omega arith;
@@ -273,6 +286,9 @@ module _ (v w : View) (c : Contents) (s : OpenSite) (k : Keeps v c (length c.seq
       older_files = λ f now r here.
           let from = stays.images f now in
           journal_same from.0 f r k.g (k.last r) (k.older r) (λ h le. from.2 (journal_file h r) (older_journal h r 0 le here (ready.each_region ∙ ap (λ (l : List InstanceRecord). length (regions l)) mine.instance))) (k.older_files from.0 from.1 r here);
+      older_stand = λ f now r here.
+          let from = stays.images f now in
+          stand_same from.0 f r k.g (k.older r) (λ h le. from.2 (journal_file h r) (older_journal h r 0 le here (ready.each_region ∙ ap (λ (l : List InstanceRecord). length (regions l)) mine.instance))) (k.older_stand from.0 from.1 r here);
       none_past = t.kept.sound.none_past;
       blocks = on_all;
       databases = λ f d i j r here. (region_kept r here).durable d j ∙ sym ((region_kept r here).durable f i);
@@ -281,6 +297,8 @@ module _ (v w : View) (c : Contents) (s : OpenSite) (k : Keeps v c (length c.seq
       are_waiting = subst (AreEntries c.instance (suc k.g) (length c.sequence) []) (sym (drop-length c.sequence)) tt;
       are_parts = no_entry_no_part (patterns c.instance) c.sequence;
       in_regions = tt;
+      indexed = subst (λ (i : EntryIndex). IsIndexOf (λ r. t.records.journal r ++ []) (reigns c.instance) i c.sequence) (sym entries)
+          (index_behind (λ r. k.records.journal r ++ appended (suc k.g) k.waiting r) (λ r. t.records.journal r ++ []) (reigns c.instance) s.entries c.sequence (λ r low. (map (in_generation (suc k.g)) (t.more.more r), marks_behind r)) k.indexed);
       at_home = λ r here. tt;
       instance_file = subst (λ (i : Instance). instances.HasRecords w i c.instance) (sym instance) (frames.records_stay v w F s.instance stays (away_instance (suc k.g) (length s.journals.journals.items)) c.instance k.instance_file);
       journal_files = record { has = λ r y is. t.kept.journals.has r y is; none_waits = λ r y is none. refl };
@@ -303,15 +321,14 @@ open_taken v w told closing c s new ready are lawful lawful_after taken stays sa
     record {
       remembered = record {
         instance = ap (λ (i : Instance). i.records) instance ∙ m.instance;
-        count = ap length entries ∙ m.count;
+        count = ap entry_count entries ∙ m.count;
         globals = ap union same.parts ∙ m.globals;
         hardened = hardened ∙ m.hardened;
       };
-      entries = λ known. entries ∙ o.entries known;
       kept = λ known.
           let k = o.kept known in
           keeps_taken v w c s k m ready are lawful lawful_after closing new (taken k.records c.sequence k.g k.newer (is_kept v c s k m ready are lawful) (sym m.count))
-          (stays (suc k.g) (newest.are_ready v c (length c.sequence) s k ready m.instance)) same instance;
+          (stays (suc k.g) (newest.are_ready v c (length c.sequence) s k ready m.instance)) same instance entries;
     }
 
 pub ready_taken : (v w : View) (s new : OpenSite) → IsReady v s → ((g : ℕ) → AreReady v g s.journals.journals.items → OthersStay (IsEpochFile g (length s.journals.journals.items)) v w)
@@ -332,5 +349,8 @@ ready_taken v w s new ready stays together count same instance layout entries =
         files = λ r here. t.files r (omega (arith, here, regions_are));
         held = λ r here. t.held r (omega (arith, here, regions_are));
       });
-      few = subst (λ es. length es < 2 ^ 40) (sym entries) ready.few;
+      few = subst (λ (i : EntryIndex). entry_count i < 2 ^ 40) (sym entries) ready.few;
+      whole = subst IsWhole (sym entries) ready.whole;
+      some_place = subst (λ (i : EntryIndex). 1 ≤ i.regions) (sym entries) ready.some_place;
+      each_place = ap (λ (i : EntryIndex). i.regions) entries ∙ ready.each_place ∙ ap (λ (i : Instance). length (regions i.records)) (sym instance);
     }

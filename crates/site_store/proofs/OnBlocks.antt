@@ -18,9 +18,13 @@ use Rattle.region_store.specs.Region.{Standing, HoldsRegion, IsHeld}
 use Rattle.site_regions.specs.Joined.{Joined, AreChanged, region_at}
 use Rattle.site_regions.proofs.Making.{region_changed}
 use Rattle.disk_defs.proofs.Told.{weaker_told, both_weak, told_at}
-use Rattle.jnl_record.specs.declared.placed.PlacedRecord.{PlacedRecord}
-use Rattle.mupip_recover.specs.Site.{site_records, journal_of}
+use Rattle.global_defs.specs.Entry.{Sequence}
+use Rattle.jnl_index.specs.declared.placed.PlacedSign.{PlacedSign}
+use Rattle.entry_index.specs.declared.index.EntryIndex.{EntryIndex}
+use Rattle.entry_index.specs.Found.{AreFound}
 use Rattle.site_defs.specs.OutsideBlocks.{gone_back}
+use Rattle.site_store.specs.declared.preparing.FoundFiles.{FoundFiles}
+use Rattle.site_store.specs.Standing.{IfFound, found_signs}
 use Rattle.site_store.specs.Site.{IsOnBlocks, AreHeld, AreOnBlocks, AreOnFiles, StandOn}
 use Rattle.site_store.proofs.Newest.{all_parts}
 
@@ -135,36 +139,43 @@ on_more f s u n j more same is plain on = record {
 pub parts_plain : (instance : List InstanceRecord) (n g : ℕ) (ps : List (ℕ → Option Part)) (r : ℕ) → AllByRecursion (IsPlain instance n) (appended g ps r)
 parts_plain instance n g ps r = all_parts (IsPlain instance n) g (λ x. ((λ b. refl), refl)) ps r
 
--- regions as they were opened
-abbrev pub Held : List InstanceRecord → List (List PlacedRecord) → ℕ → Joined → Files → Type 0
-Held rs js n j files = (r : ℕ) → r < length j.regions → NeedsForward rs n (journal_of js r) ⊎ HoldsRegion (gone_back (site_records rs js) n r) (files (database_file r)) (region_at j r)
+-- regions as they were opened, by what was found
+abbrev pub AreGoneBack : List InstanceRecord → List (List PlacedSign) → EntryIndex → ℕ → Joined → Files → Type 0
+AreGoneBack rs signs entries n j files = (u : Records) (seq : Sequence) → AreFound files rs signs entries u seq
+    → (r : ℕ) → r < length j.regions → NeedsForward rs n (u.journal r) ⊎ HoldsRegion (gone_back u n r) (files (database_file r)) (region_at j r)
 
 abbrev pub AllHeld : Joined → Files → Type 0
 AllHeld j files = (r : ℕ) → r < length j.regions → IsHeld (region_at j r) files
 
-pub on_blocks : (o : Option Files) (rs : List InstanceRecord) (js : List (List PlacedRecord)) (n : ℕ) (j : Joined) → j.patterns ≡ patterns rs → length j.regions ≡ length (regions rs)
-    → ((r : ℕ) → r < length j.regions → (region_at j r).file ≡ database_file r) → IfSome o (Held rs js n j) → IfSome o (AllHeld j) → IfSome o (λ files. AreOnBlocks files (site_records rs js) n j)
-on_blocks o rs js n j same count file holds held = both_weak o (Held rs js n j) (AllHeld j) (λ files. AreOnBlocks files (site_records rs js) n j) holds held (λ files h all. record {
-  patterns = same;
-  count = count;
-  each = λ r here.
-      let low : r < length j.regions = omega (arith, here, count) in
+module _ (o : Option Files) (f : FoundFiles) (n : ℕ) (j : Joined) (same : j.patterns ≡ patterns f.read.log.records) (count : length j.regions ≡ length (regions f.read.log.records))
+    (file : (r : ℕ) → r < length j.regions → (region_at j r).file ≡ database_file r) where
+  pub on_blocks : IfSome o (AreGoneBack f.read.log.records (found_signs f) f.entries n j) → IfSome o (AllHeld j) → IfSome o (IfFound f (λ u seq files. AreOnBlocks files u n j))
+  on_blocks holds held = both_weak o (AreGoneBack f.read.log.records (found_signs f) f.entries n j) (AllHeld j) (IfFound f (λ u seq files. AreOnBlocks files u n j)) holds held (λ files h all u seq found.
+      let own : f.read.log.records ≡ u.instance = sym found.instance_is in
+      let many : length j.regions ≡ length (regions u.instance) = count ∙ ap (λ (l : List InstanceRecord). length (regions l)) own in
       record {
-        file = file r low;
-        held = all r low;
-        holds = h r low;
-      };
-})
+        patterns = same ∙ ap patterns own;
+        count = many;
+        each = λ r here.
+            let low : r < length j.regions = omega (arith, here, many) in
+            record {
+              file = file r low;
+              held = all r low;
+              holds = subst (λ (l : List InstanceRecord). NeedsForward l n (u.journal r) ⊎ HoldsRegion (gone_back u n r) (files (database_file r)) (region_at j r)) own (h u seq found r low);
+            };
+      })
 
-pub on_files : (o : Option Files) (rs : List InstanceRecord) (js : List (List PlacedRecord)) (j : Joined) → j.patterns ≡ patterns rs → length j.regions ≡ length (regions rs)
-    → ((r : ℕ) → r < length j.regions → (region_at j r).file ≡ database_file r) → IfSome o (AllHeld j) → IfSome o (λ files. AreOnFiles files (site_records rs js) j)
-on_files o rs js j same count file held = weaker_told o (AllHeld j) (λ files. AreOnFiles files (site_records rs js) j) held (λ files all. record {
-  patterns = same;
-  count = count;
-  each = λ r here.
-      let low : r < length j.regions = omega (arith, here, count) in
-      (file r low, all r low);
-})
+  pub on_files : IfSome o (AllHeld j) → IfSome o (IfFound f (λ u seq files. AreOnFiles files u j))
+  on_files held = weaker_told o (AllHeld j) (IfFound f (λ u seq files. AreOnFiles files u j)) held (λ files all u seq found.
+      let own : f.read.log.records ≡ u.instance = sym found.instance_is in
+      let many : length j.regions ≡ length (regions u.instance) = count ∙ ap (λ (l : List InstanceRecord). length (regions l)) own in
+      record {
+        patterns = same ∙ ap patterns own;
+        count = many;
+        each = λ r here.
+            let low : r < length j.regions = omega (arith, here, many) in
+            (file r low, all r low);
+      })
 
 -- and so they are open for calls
 pub are_held : (v w : View) (n : ℕ) (j : Joined) → w.content ≡ v.content → length j.regions ≡ n → ((r : ℕ) → r < length j.regions → (region_at j r).file ≡ database_file r) → IfSome v.content (AllHeld j) → AreHeld w n j

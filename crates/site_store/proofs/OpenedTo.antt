@@ -1,5 +1,5 @@
 -- A site is open once its next generation was drawn to a target.
-use Rattle.std.proofs.Common.{◌≡◌, inl, inr, ℕ, suc, ◌+◌, ◌<◌, Bool, true, false, List, [], ◌∷◌, ◌++◌, length, map, take, drop, Option, Some, None, IfSome, IsSomeAnd, refl, sym, ◌∙◌, ap, subst, arith}
+use Rattle.std.proofs.Common.{◌≡◌, inl, inr, ℕ, suc, ◌+◌, ◌<◌, Bool, true, false, List, [], ◌∷◌, ◌++◌, length, map, take, drop, Option, Some, None, IfSome, IsSomeAnd, refl, sym, ◌∙◌, ap, subst, arith, append-nil, ◌≤◌}
 use Rattle.std.specs.Prelude.{nat_lt, ◌&&◌, slice_get, if◌then◌else◌}
 use Rattle.std.specs.List.{AllByRecursion}
 use Rattle.std.specs.Option.{option_map}
@@ -9,7 +9,7 @@ use Rattle.disk_defs.specs.Disk.{Files, View, Image, IsLawful, From}
 use Rattle.global_defs.specs.Entry.{Sequence, state}
 use Rattle.journal_defs.specs.Instance.{InstanceRecord, generation, regions}
 use Rattle.journal_defs.specs.Directory.{patterns}
-use Rattle.journal_defs.specs.Numbers.{database_file}
+use Rattle.journal_defs.specs.Numbers.{database_file, journal_file}
 use Rattle.journal_defs.specs.Sequence.{Placed, Records, IsSequence}
 use Rattle.journal_defs.specs.Epochs.{NeedsForward}
 use Rattle.journal_defs.specs.Growth.{AreEntries, with_record}
@@ -34,10 +34,15 @@ use Rattle.site_defs.specs.Behind.{parts_of_each}
 use Rattle.site_defs.specs.Stands.{IsSite}
 use Rattle.site_regions.specs.Joined.{joined, region_at}
 use Rattle.site_store.specs.declared.site.OpenSite.{OpenSite}
-use Rattle.site_store.specs.Site.{Remembers, Keeps, IsOpen, AreOnBlocks, AreOnFiles, StandOn, AreSynced}
+use Rattle.site_store.specs.Site.{Remembers, Keeps, IsOpen, AreOnBlocks, AreOnFiles, StandOn, AreSynced, count_of}
 use Rattle.site_store.proofs.OnBlocks.{IsPlain, anew_or_not, held_same, on_same, on_more, on_chosen}
 use Rattle.site_store.proofs.Drawn.{S, C, cut_at, DrawsTo, newest_is, same_regions, site_read, site_drawn, newest_whole}
 use Rattle.site_store.proofs.Parts.{no_entry_no_part}
+use Rattle.entry_index.specs.Among.{IsIndexOf}
+use Rattle.jnl_index.specs.Order.{StandUpTo}
+use Rattle.entry_index.proofs.AmongLaws.{index_behind}
+use Rattle.journal_defs.specs.Surviving.{reigns}
+use Rattle.site_store.proofs.Indexing.{index_cut, stand_same}
 
 -- journals that have just begun
 abbrev pub newly : Journal → RegionJournal
@@ -71,7 +76,7 @@ one_image w (Some files) Q some as_read = (files, as_read)
 module _ (anew : Bool) (v w : View) (rs : List InstanceRecord) (last : ℕ → ℕ) (journal : ℕ → List Placed) (seq : Sequence) (form : MayBeOpened rs last) (sequence : IsSequence (record { instance = rs; journal = journal }) seq) (lawful : IsLawful w)
     (reads : (f : Files) → Image v f → AreRead rs last journal f) (c : Contents) (stands : (f : Files) → Image v f → IsSite f c)
     (t : ℕ) (kept : Sequence) (size : length kept ≡ t) (broken : List ℕ) (draws : (f : Files) → Image v f → DrawsTo rs last journal seq form sequence anew f t kept broken)
-    (s : OpenSite) (records : s.instance.records ≡ rs ++ next_cut rs t ∷ []) (entries : s.entries ≡ kept) (hardened : s.hardened ≡ t)
+    (s : OpenSite) (records : s.instance.records ≡ rs ++ next_cut rs t ∷ []) (counted : count_of s ≡ length kept) (indexed : IsIndexOf journal (reigns rs) s.entries kept) (stand : (f : Files) → Image v f → (r : ℕ) → r < length (regions rs) → StandUpTo f r (generation rs) (journal r)) (hardened : s.hardened ≡ t)
     (begun : List Journal) (js_are : s.journals.journals.items ≡ map newly begun) where
   abbrev S0 : Records
   S0 = S rs last journal seq form sequence
@@ -94,17 +99,21 @@ module _ (anew : Bool) (v w : View) (rs : List InstanceRecord) (last : ℕ → �
   stands_so : (f : Files) → Image v f → c ≡ C0 f
   stands_so f image = (site_read rs last journal seq form sequence f c (reads f image) (stands f image)).1
 
-  count : length s.entries ≡ length kept
-  count = ap length entries
-
   remembers : (f : Files) → joined s.globals ≡ state kept → Remembers (begun_as anew many (cut_at t broken kept (C0 f))) t s
-  remembers f globals = record { instance = records; count = count; globals = globals; hardened = hardened }
+  remembers f globals = record { instance = records; count = counted; globals = globals; hardened = hardened }
 
   -- a database file is as it was
   database_drawn : (f : Files) (q : Finished f) (r : ℕ) → r < many → f (database_file r) ≡ q.0 (database_file r)
   database_drawn f q r low =
       let few = form.few_regions in
       q.2.others (database_file r) (λ e. omega (arith, e)) (λ e. omega (arith, e, low, few)) (λ p here e. omega (arith, e, low, here, few))
+
+  -- and the journals of the generations before
+  older_same : (f : Files) (q : Finished f) (r : ℕ) → r < many → (h : ℕ) → h ≤ generation rs → f (journal_file h r) ≡ q.0 (journal_file h r)
+  older_same f q r low h le =
+      let few = form.few_regions in
+      let room = form.room in
+      q.2.others (journal_file h r) (λ e. omega (arith, e)) (λ e. omega (arith, e, low, few, le, room)) (λ p here e. omega (arith, e, low, here, few, le))
 
   -- the regions' blocks, once the next generation has begun
   on_drawn : (f : Files) (q : Finished f) → AreOnBlocks q.0 S0 t s.globals → AreOnBlocks f drawn_all t s.globals
@@ -194,6 +203,7 @@ module _ (anew : Bool) (v w : View) (rs : List InstanceRecord) (last : ℕ → �
           };
           sound = λ f image. subst (IsSoundImage f drawn_all) (sym full) (drawn_sound f image);
           older_files = λ f image q below. let from = drawn f image in keeping.older_still from.0 S0 last form f from.2.others (reads from.0 from.1) q (omega (arith, below, number));
+          older_stand = λ f image q below. let from = drawn f image in let low : q < many = omega (arith, below, number) in stand_same from.0 f q (generation rs) (journal q) (older_same f from q low) (stand from.0 from.1 q low);
           none_past = keeping.none_past anew S0 t last before many;
           blocks = λ f image. let q = drawn f image in blocks_drawn f q (on q.0 q.1);
           databases = λ f d i j q below.
@@ -206,6 +216,8 @@ module _ (anew : Bool) (v w : View) (rs : List InstanceRecord) (last : ℕ → �
           are_waiting = subst (λ (es : Sequence). AreEntries (rs ++ next_cut rs t ∷ []) (suc (generation rs)) t [] es) (sym none_behind) tt;
           are_parts = subst (λ (n : ℕ). [] ≡ parts_of_each (patterns (rs ++ next_cut rs t ∷ [])) n (drop n kept)) size (no_entry_no_part (patterns (rs ++ next_cut rs t ∷ [])) kept);
           in_regions = tt;
+          indexed = index_behind journal (λ q. drawn_all.journal q ++ []) (reigns (rs ++ next_cut rs t ∷ [])) s.entries kept (λ q below. (starts_in_as anew rs last many q, append-nil (drawn_all.journal q)))
+              (index_cut journal rs t (generation rs + 1) s.entries kept (omega (arith, size)) indexed);
           at_home = λ q below. tt;
           instance_file = instance;
           journal_files = keeps_journals has;
@@ -218,6 +230,5 @@ module _ (anew : Bool) (v w : View) (rs : List InstanceRecord) (last : ℕ → �
       let was = drawn now.0 now.1 in
       subst (λ (x : Contents). IsOpen w true (begun_as anew many (cut_at t broken kept x)) t s) (sym (stands_so was.0 was.1)) (record {
         remembered = remembers was.0 globals;
-        entries = λ _. entries;
         kept = λ _. keeps synced on drawn instance has was.0 was.1 now.0 now.1;
       })

@@ -12,7 +12,7 @@ use Rattle.site_defs.specs.Fronts.{with_sequence, IsFrontOf}
 use Rattle.site_defs.specs.Stands.{IsSite, HasLeft}
 use Rattle.site_store.specs.declared.site.OpenSite.{OpenSite}
 use Rattle.site_store.specs.declared.owning.Site.{Site}
-use Rattle.site_store.specs.Site.{IsReady, IsOpen}
+use Rattle.site_store.specs.Site.{IsReady, IsOpen, count_of}
 use Rattle.site_store.specs.Owning.{HasHistory, MayBeCalled, IsOpenSite, MayFinish}
 use Rattle.site_store.proofs.Emptied.{none_left}
 use Rattle.site_store.proofs.Unwritten.{site_read, open_read}
@@ -20,7 +20,7 @@ use Rattle.site_store.proofs.Remembered.{remembered_length}
 use Rattle.site_store.proofs.Standing.{images_stand, reads_of}
 
 -- no entry waits
-pub open_settled : (v : View) (told : Bool) (c : Contents) (h : ℕ) (s : OpenSite) → s.hardened ≡ length s.entries → IsOpen v told c h s → IsOpen v told c (length c.sequence) s
+pub open_settled : (v : View) (told : Bool) (c : Contents) (h : ℕ) (s : OpenSite) → s.hardened ≡ count_of s → IsOpen v told c h s → IsOpen v told c (length c.sequence) s
 open_settled v told c h s all is =
     let e : h ≡ length c.sequence = sym is.remembered.hardened ∙ all ∙ remembered_length c h s is.remembered in
     subst (λ (k : ℕ). IsOpen v told c k s) e is

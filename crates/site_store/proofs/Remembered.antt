@@ -1,17 +1,16 @@
 -- What a site has in memory beside its contents.
-use Rattle.std.proofs.Common.{◌≡◌, ℕ, ◌+◌, ◌-◌, List, [], ◌∷◌, ◌++◌, length, Option, Some, sym, ◌∙◌, ap, arith, append-nil}
-use Rattle.std.specs.Prelude.{fold, slice_get}
+use Rattle.std.proofs.Common.{◌≡◌, ℕ, List, [], ◌∷◌, ◌++◌, length, sym, ◌∙◌, ap, append-nil}
+use Rattle.std.specs.Prelude.{fold}
 use Rattle.std.specs.List.{flat_map}
 use Rattle.std.specs.FinMap as globals
 use Rattle.std.proofs.lemmas.List.Concat.{flat_map-append}
 use Rattle.std.proofs.lemmas.List.Sums.{fold-append}
 use Rattle.global_defs.specs.Entry.{Update, Entry, Sequence, Globals, apply, state}
 use Rattle.site_defs.specs.Contents.{Contents}
-use Rattle.region_epochs.proofs.Epochs.{last_get}
 use Rattle.site_store.specs.declared.site.OpenSite.{OpenSite}
-use Rattle.site_store.specs.Site.{Remembers}
+use Rattle.site_store.specs.Site.{Remembers, count_of}
 
-pub remembered_length : (c : Contents) (h : ℕ) (s : OpenSite) → Remembers c h s → length s.entries ≡ length c.sequence
+pub remembered_length : (c : Contents) (h : ℕ) (s : OpenSite) → Remembers c h s → count_of s ≡ length c.sequence
 remembered_length c h s r = r.count
 
 state_more : (es : Sequence) (e : Entry) → state (es ++ e ∷ []) ≡ fold apply (state es) e.transaction.updates
@@ -21,15 +20,3 @@ state_more es e =
 
 pub globals_more : (old new : Globals) (seq : Sequence) (e : Entry) → old ≡ state seq → new ≡ fold apply old e.transaction.updates → new ≡ state (seq ++ e ∷ [])
 globals_more old new seq e are is = is ∙ ap (λ (g : Globals). fold apply g e.transaction.updates) are ∙ sym (state_more seq e)
-
--- what is behind the others is the entry that was added
-added : (old new : Sequence) (e : Entry) (number : ℕ) (o : Option Entry) → number ≡ length old + 1 → new ≡ old ++ e ∷ [] → o ≡ slice_get new (number - 1) → o ≡ Some e
-added old new e number o next is got =
-    let place : number - 1 ≡ length old = omega (arith, next) in
-    got ∙ ap (slice_get new) place ∙ ap (λ (es : Sequence). slice_get es (length old)) is ∙ last_get old e
-
-pub added_updates : (old new : Sequence) (e x : Entry) (number : ℕ) → number ≡ length old + 1 → new ≡ old ++ e ∷ [] → Some x ≡ slice_get new (number - 1) → x.transaction.updates ≡ e.transaction.updates
-added_updates old new e x number next is got =
-    let same : Some x ≡ Some e = added old new e number (Some x) next is got in
-    let one : x ≡ e = cc same in
-    ap (λ (y : Entry). y.transaction.updates) one

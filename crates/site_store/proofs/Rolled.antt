@@ -28,11 +28,14 @@ use Rattle.site_files.proofs.Keeping as keeping
 use Rattle.site_files.proofs.LostFiles.{lost_changed}
 use Rattle.site_regions.specs.Joined.{joined}
 use Rattle.site_store.specs.declared.site.OpenSite.{OpenSite}
-use Rattle.site_store.specs.Site.{IsOpen, AreOnBlocks, AreSynced}
+use Rattle.site_store.specs.Site.{IsOpen, AreOnBlocks, AreSynced, count_of}
 use Rattle.site_store.proofs.Drawn.{S, text, cut_at, DrawsTo, site_read, site_drawn, left_drawn, standing_may}
 use Rattle.site_store.proofs.Images.{losts_same, texts_same, torn_same}
 use Rattle.site_store.proofs.OpenedTo as opened
 use Rattle.site_store.proofs.OpenedTo.{newly, one_image}
+use Rattle.entry_index.specs.Among.{IsIndexOf}
+use Rattle.jnl_index.specs.Order.{StandUpTo}
+use Rattle.journal_defs.specs.Surviving.{reigns}
 
 module _ (rs : List InstanceRecord) (last : ℕ → ℕ) (journal : ℕ → List Placed) (seq : Sequence) (form : MayBeOpened rs last) (sequence : IsSequence (record { instance = rs; journal = journal }) seq)
     (none : broken (record { instance = rs; journal = journal }) (length seq) ≡ []) (t : ℕ) (most : t ≤ length seq) where
@@ -82,18 +85,19 @@ module _ (rs : List InstanceRecord) (last : ℕ → ℕ) (journal : ℕ → List
 
   -- the open site: all images stood for c at v, and it was drawn at w
   pub open_cut : (v w : View) → IsLawful w → (reads : (f : Files) → Image v f → AreRead rs last journal f) (c : Contents) (stands : (f : Files) → Image v f → IsSite f c)
-      → (s : OpenSite) → s.instance.records ≡ rs ++ next_cut rs t ∷ [] → s.entries ≡ kept → s.hardened ≡ t
+      → (s : OpenSite) → s.instance.records ≡ rs ++ next_cut rs t ∷ [] → count_of s ≡ length kept → IsIndexOf journal (reigns rs) s.entries kept
+      → ((f : Files) → Image v f → (r : ℕ) → r < length (regions rs) → StandUpTo f r (generation rs) (journal r)) → s.hardened ≡ t
       → (begun : List Journal) → s.journals.journals.items ≡ map newly begun
       → AreSynced v many → ((f : Files) → Image v f → AreOnBlocks f (S rs last journal seq form sequence) t s.globals) → joined s.globals ≡ state kept
       → ((f : Files) → Image w f → From (Image v) (HasDrawn rs t [] last many) f) → instances.HasRecords w s.instance (rs ++ next_cut rs t ∷ []) → ((r : ℕ) (j : Journal) → slice_get begun r ≡ Some j → journals.HasRecords w j (settled (next_pini rs last r ∷ [])))
       → IsOpen w true (with_starts many (cut_to t c)) t s
-  open_cut v w lawful reads c stands s records entries hardened begun js_are synced on globals drawn instance has =
+  open_cut v w lawful reads c stands s records count indexed stand hardened begun js_are synced on globals drawn instance has =
       let now = one_image w w.content (instances.HoldsRecords w s.instance (rs ++ next_cut rs t ∷ [])) instance lawful.as_read in
       let was = drawn now.0 now.1 in
       let seqs : c.sequence ≡ seq = ap (λ (x : Contents). x.sequence) (site_read rs last journal seq form sequence was.0 c (reads was.0 was.1) (stands was.0 was.1)).1 in
       subst (λ (q : Sequence). IsOpen w true (with_starts many (cut_at t [] (take t q) c)) t s) (sym seqs)
       (opened.open_to false v w rs last journal seq form sequence lawful reads c stands t kept size [] (λ f image. draws_to f (reads f image) (site_read rs last journal seq form sequence f c (reads f image) (stands f image)).0)
-      s records entries hardened begun js_are synced on globals drawn instance has)
+      s records count indexed stand hardened begun js_are synced on globals drawn instance has)
 
 -- the last of a list
 without_last : {X : Type 0} → List X → List X

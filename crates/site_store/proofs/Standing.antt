@@ -1,11 +1,11 @@
 -- What an open site's images stand for, and what they still stand for once nothing but room has changed.
-use Rattle.std.proofs.Common.{ℕ, true, length, take, None, Some, subst, refl}
+use Rattle.std.proofs.Common.{ℕ, true, length, take, None, Some, subst, refl, suc, ◌++◌}
 use Rattle.std.specs.Prelude.{Option, IfSome, IsSome, IsSomeAnd}
 use Rattle.std.proofs.Math.Seq.{take-length}
 use Rattle.disk_defs.specs.Disk.{Files, View, Image, IsLawful, ReadsAfter}
 use Rattle.disk_defs.specs.Frames.{SameOutside, OthersStay}
 use Rattle.disk_defs.proofs.Told.{weaker_told}
-use Rattle.journal_defs.specs.Growth.{tcoms}
+use Rattle.journal_defs.specs.Growth.{tcoms, appended}
 use Rattle.instance_file.specs.Instance as instances
 use Rattle.region_journals.specs.Journals.{KeepsJournals}
 use Rattle.site_defs.specs.Contents.{Contents}
@@ -13,8 +13,11 @@ use Rattle.site_defs.specs.Fronts.{with_sequence}
 use Rattle.site_defs.specs.Stands.{IsSite}
 use Rattle.site_store.specs.declared.site.OpenSite.{OpenSite}
 use Rattle.site_regions.specs.Joined.{AreChanged}
+use Rattle.site_store.specs.Committing.{IsSameIndex}
 use Rattle.site_store.specs.Site.{Keeps, IsOpen}
 use Rattle.site_store.proofs.OnBlocks.{on_changed}
+use Rattle.site_store.proofs.Places.{same_index}
+use Rattle.journal_defs.specs.Surviving.{reigns}
 
 -- with all of its entries hardened, each image stands for its contents
 pub images_stand : (v : View) (c : Contents) (s : OpenSite) → IsOpen v true c (length c.sequence) s → (f : Files) → Image v f → IsSite f c
@@ -48,8 +51,8 @@ still v w F stays told = among v.content w.content told stays.content
 
 -- where each image is one from before
 pub keeps_images : (v w : View) (c : Contents) (h : ℕ) (old new : OpenSite) (k : Keeps v c h old) → IsLawful w → IsSome w.content → ((f : Files) → Image w f → Image v f) → instances.HasRecords w new.instance c.instance
-    → KeepsJournals w k.newer (tcoms k.waiting) new.journals.journals.items → AreChanged old.globals new.globals → Keeps w c h new
-keeps_images v w c h old new k lawful told from instance journals changed = record {
+    → KeepsJournals w k.newer (tcoms k.waiting) new.journals.journals.items → AreChanged old.globals new.globals → IsSameIndex old.entries new.entries → Keeps w c h new
+keeps_images v w c h old new k lawful told from instance journals changed entries = record {
   count = k.count;
   few_nodes = k.few_nodes;
   reads = reads_so w (λ files. IsSite files (with_sequence c (take h c.sequence))) lawful told (λ f now. k.images f (from f now));
@@ -62,6 +65,7 @@ keeps_images v w c h old new k lawful told from instance journals changed = reco
   newest = k.newest;
   sound = λ f now. k.sound f (from f now);
   older_files = λ f now. k.older_files f (from f now);
+  older_stand = λ f now. k.older_stand f (from f now);
   none_past = k.none_past;
   blocks = λ f now. on_changed f k.records h old.globals new.globals changed (k.blocks f (from f now));
   databases = λ f d i j. k.databases f d (from f i) (from d j);
@@ -70,6 +74,7 @@ keeps_images v w c h old new k lawful told from instance journals changed = reco
   are_waiting = k.are_waiting;
   are_parts = k.are_parts;
   in_regions = k.in_regions;
+  indexed = same_index old.entries new.entries entries (λ r. k.records.journal r ++ appended (suc k.g) k.waiting r) (reigns c.instance) c.sequence k.indexed;
   at_home = k.at_home;
   instance_file = instance;
   journal_files = journals;

@@ -26,6 +26,7 @@ use Rattle.site_store.specs.declared.site.OpenSite.{OpenSite}
 use Rattle.site_store.proofs.HeldRegions.{held_read, synced_stays}
 use Rattle.disk_defs.proofs.Frames.{others_read}
 use Rattle.site_store.specs.Site.{IsReady, Keeps, IsOpen, AreOnBlocks}
+use Rattle.jnl_index.specs.Order.{StandUpTo}
 
 records_read : (v w : View) (j : Journal) (s : Recorded) (a : Files) → Reads v w → HoldsRecords v j s a → HoldsRecords w j s a
 records_read v w j s a r h = record {
@@ -84,7 +85,7 @@ journals_read v w g js r h = record {
 }
 
 pub site_read : (v w : View) (s : OpenSite) → Reads v w → IsReady v s → IsReady w s
-site_read v w s r h = record { instance = instance_read v w s.instance r h.instance; layout = h.layout; journals = journals_read v w (generation s.instance.records) s.journals.journals.items r h.journals; each_region = h.each_region; regions = held_read v w (length (regions s.instance.records)) s.globals r h.regions; few = h.few }
+site_read v w s r h = record { instance = instance_read v w s.instance r h.instance; layout = h.layout; journals = journals_read v w (generation s.instance.records) s.journals.journals.items r h.journals; each_region = h.each_region; regions = held_read v w (length (regions s.instance.records)) s.globals r h.regions; whole = h.whole; some_place = h.some_place; each_place = h.each_place; few = h.few }
 
 journals_kept : (v w : View) (hard waiting : ℕ → List JournalRecord) (js : List RegionJournal) → Reads v w → KeepsJournals v hard waiting js → KeepsJournals w hard waiting js
 journals_kept v w hard waiting js r h = record {
@@ -110,6 +111,7 @@ keeps_read v w c n s r h = record {
   newest = h.newest;
   sound = image_read v w (λ f. IsSoundImage f h.records (take n c.sequence)) r h.sound;
   older_files = λ f i k here. let x = r.passes.images f i in subst (λ (y : Files). IsJournal y k h.g (h.last k) (h.older k)) (sym x.2) (h.older_files x.0 x.1 k here);
+  older_stand = λ f i k here. let x = r.passes.images f i in subst (λ (y : Files). StandUpTo y k h.g (h.older k)) (sym x.2) (h.older_stand x.0 x.1 k here);
   none_past = h.none_past;
   blocks = image_read v w (λ f. AreOnBlocks f h.records n s.globals) r h.blocks;
   databases = synced_stays v w (λ f. ⊥) (length (regions c.instance)) (others_read (λ f. ⊥) v w r).images (λ q here no. no) h.databases;
@@ -118,10 +120,11 @@ keeps_read v w c n s r h = record {
   are_waiting = h.are_waiting;
   are_parts = h.are_parts;
   in_regions = h.in_regions;
+  indexed = h.indexed;
   at_home = h.at_home;
   instance_file = instance_has v w s.instance c.instance r h.instance_file;
   journal_files = journals_kept v w h.newer (tcoms h.waiting) s.journals.journals.items r h.journal_files;
 }
 
 pub open_read : (v w : View) (told : Bool) (c : Contents) (n : ℕ) (s : OpenSite) → Reads v w → IsOpen v told c n s → IsOpen w told c n s
-open_read v w told c n s r h = record { remembered = h.remembered; entries = h.entries; kept = λ yes. keeps_read v w c n s r (h.kept yes) }
+open_read v w told c n s r h = record { remembered = h.remembered; kept = λ yes. keeps_read v w c n s r (h.kept yes) }

@@ -1,66 +1,54 @@
--- Regions that need forward recovery for a target.
-use Rattle.std.proofs.Common.{◌≡◌, inl, inr, ℕ, zero, suc, ◌≤◌, ◌<◌, List, [], ◌∷◌, length, map, take, get_or, min, Option, Some, None, IfSome, Vec, Global, refl, sym, ◌∙◌, ap, arith}
+-- Regions that need forward recovery for a target, by what signs say.
+use Rattle.std.proofs.Common.{◌≡◌, inl, inr, ℕ, zero, suc, ◌≤◌, List, [], ◌∷◌, length, Option, Some, None, IfSome, refl, arith}
 use Rattle.std.proofs.lemmas.Bool.{cases_lt}
-use Rattle.std.proofs.lemmas.List.{length-take-le}
-use Rattle.jnl_record.specs.declared.placed.PlacedRecord.{PlacedRecord}
-use Rattle.jnl_record.specs.Values.{placed_value}
-use Rattle.journal_defs.specs.Epochs.{chosen, first_without}
+use Rattle.disk_defs.specs.Disk.{Files}
 use Rattle.journal_defs.specs.Instance.{InstanceRecord, regions}
 use Rattle.journal_defs.specs.Sequence.{Placed}
-use Rattle.mupip_recover.specs.Site.{journal_of, site_records}
+use Rattle.jnl_index.specs.declared.placed.PlacedSign.{PlacedSign}
+use Rattle.jnl_index.specs.Places.{AreSignsOf}
+use Rattle.entry_index.specs.Signs.{signs_of}
+use Rattle.entry_index.specs.Indexes.{AreSigns}
 use Rattle.region_opening.specs.declared.needing.WithoutImages.{WithoutImages}
 use Rattle.region_opening.specs.Forward as opening
+use Rattle.region_opening.specs.Signs.{Say, AllSay}
 use Rattle.site_store.specs.Needing.{IsFirstWithout, NoneIsWithout}
 
-module _ {X Y : Type 0} (f : X → List Y) where
-  same_item : (xs : List X) (n r : ℕ) → r < n → get_or (map f (take n xs)) r [] ≡ get_or (map f xs) r []
-  same_item xs zero r low = absurd (omega (arith, low))
-  same_item [] (suc n) r low = refl
-  same_item (x ∷ xs) (suc n) zero low = refl
-  same_item (x ∷ xs) (suc n) (suc r) low = same_item xs n r (omega (arith, low))
+-- signs of records say what these do
+one_say : (files : Files) (r : ℕ) (signs : List PlacedSign) (js : List Placed) → AreSignsOf files r signs js → Say signs js
+one_say files r [] [] are = tt
+one_say files r [] (p ∷ js) are = absurd are
+one_say files r (s ∷ signs) [] are = absurd are
+one_say files r (s ∷ signs) (p ∷ js) are = (record { generation = are.0.generation; what = are.0.says }, one_say files r signs js are.1)
 
-  no_item : (xs : List X) (r : ℕ) → length xs ≤ r → get_or (map f xs) r [] ≡ []
-  no_item [] r far = refl
-  no_item (x ∷ xs) zero far = absurd (omega (arith, far))
-  no_item (x ∷ xs) (suc r) far = no_item xs r (omega (arith, far))
+past_last : (signs : List (List PlacedSign)) (r : ℕ) → length signs ≤ r → signs_of signs r ≡ []
+past_last [] r past = refl
+past_last (s ∷ signs) zero past = absurd (omega (arith, past))
+past_last (s ∷ signs) (suc r) past = past_last signs r (omega (arith, past))
 
-abbrev pub Journals : Type 0
-Journals = List (Vec PlacedRecord Global)
+none_say : (signs : List PlacedSign) (js : List Placed) → signs ≡ [] → js ≡ [] → Say signs js
+none_say [] [] a b = tt
+none_say [] (p ∷ js) a b = absurd (cc b)
+none_say (s ∷ signs) js a b = absurd (cc a)
 
-abbrev pub lists_of : Journals → List (List PlacedRecord)
-lists_of js = map (λ (j : Vec PlacedRecord Global). j.items) js
+pub signs_say : (files : Files) (signs : List (List PlacedSign)) (journal : ℕ → List Placed) → AreSigns files signs journal → AllSay signs journal
+signs_say files signs journal are r = elim (cases_lt r (length signs)) [
+  | inl low ↦ one_say files r (signs_of signs r) (journal r) (are.each r low)
+  | inr past ↦ none_say (signs_of signs r) (journal r) (past_last signs r past) (are.no_more r past)
+]
 
-module _ (rs : List InstanceRecord) (t : ℕ) (js : Journals) (n : ℕ) (n_is : n ≡ min (length (regions rs)) (length js)) where
-  abbrev in_these : List Placed → Option ℕ
-  in_these ps = first_without ps (chosen rs t ps)
+module _ (rs : List InstanceRecord) (t n : ℕ) (journal : ℕ → List Placed) (many : n ≡ length (regions rs)) where
+  pub none_is : opening.NoneNeeds rs t journal n → NoneIsWithout (record { instance = rs; journal = journal }) t
+  none_is none r here = none r (omega (arith, here, many))
 
-  few : n ≤ length js
-  few = omega (arith, n_is)
+  pub first_is : (x : WithoutImages) → opening.IsFirstWithout rs t journal n x → IsFirstWithout (record { instance = rs; journal = journal }) t x.region x.generation
+  first_is x found = record {
+    there = (let below = found.below in omega (arith, below, many));
+    needs = found.without;
+    earlier = λ q before. found.earlier q before;
+  }
 
-  size : length (take n js) ≡ n
-  size = length-take-le n js few
-
-  same_journal : (r : ℕ) → r < n → journal_of (lists_of (take n js)) r ≡ journal_of (lists_of js) r
-  same_journal r low = ap (map placed_value) (same_item (λ (j : Vec PlacedRecord Global). j.items) js n r low)
-
-  below : (r : ℕ) → r < length (take n js) → r < n
-  below r low = let s = size in omega (arith, low, s)
-
-  pub none_is : opening.NoneNeeds rs t (journal_of (lists_of (take n js))) (length (take n js)) → NoneIsWithout (site_records rs (lists_of js)) t
-  none_is none r here = elim (cases_lt r n) [
-    | inl low ↦ ap in_these (sym (same_journal r low)) ∙ none r (let s = size in omega (arith, low, s))
-    | inr far ↦ ap in_these (ap (map placed_value) (no_item (λ (j : Vec PlacedRecord Global). j.items) js r (omega (arith, far, here, n_is)))) ∙ refl
-  ]
-
-  first_is : (x : WithoutImages) → opening.IsFirstWithout rs t (journal_of (lists_of (take n js))) (length (take n js)) x → IsFirstWithout (site_records rs (lists_of js)) t x.region x.generation
-  first_is x found =
-      let low : x.region < n = below x.region found.below in
-      record {
-        there = omega (arith, low, n_is);
-        needs = ap in_these (sym (same_journal x.region low)) ∙ found.without;
-        earlier = λ q before. ap in_these (sym (same_journal q (omega (arith, before, low)))) ∙ found.earlier q before;
-      }
-
-  pub first_told : (o : Option WithoutImages) → IfSome o (opening.IsFirstWithout rs t (journal_of (lists_of (take n js))) (length (take n js))) → IfSome o (λ x. IsFirstWithout (site_records rs (lists_of js)) t x.region x.generation)
-  first_told None found = tt
-  first_told (Some x) found = first_is x found
+-- of each list of records by which P is told
+pub first_told : (rs : List InstanceRecord) (t n : ℕ) → n ≡ length (regions rs) → (P Q : (ℕ → List Placed) → Type 0) → ((journal : ℕ → List Placed) → P journal → Q journal) → (o : Option WithoutImages)
+    → IfSome o (λ x. (journal : ℕ → List Placed) → Q journal → opening.IsFirstWithout rs t journal n x) → IfSome o (λ x. (journal : ℕ → List Placed) → P journal → IsFirstWithout (record { instance = rs; journal = journal }) t x.region x.generation)
+first_told rs t n many P Q more None first = tt
+first_told rs t n many P Q more (Some x) first = λ journal p. first_is rs t n journal many x (first journal (more journal p))

@@ -1,9 +1,7 @@
 -- Entries on their way into the journals.
-use Rattle.std.specs.Prelude.{◌≡◌, ◌+◌, ◌<◌, ◌≤◌, ℕ, List, [], ◌∷◌, ◌++◌, length, fold, Option, Some, None}
+use Rattle.std.specs.Prelude.{◌≡◌, ◌+◌, ◌<◌, ◌≤◌, ℕ, List, ◌++◌, length, fold, Option, Some, None, slice_get, get_or}
 use Rattle.global_defs.specs.Entry.{Update, Transaction, apply}
-use Rattle.gvn_model.specs.declared.entry.Entry as code_entry
 use Rattle.gvn_model.specs.declared.entry.Transaction as code_transaction
-use Rattle.gvn_model.specs.Entries.{entry_value}
 use Rattle.disk_defs.specs.Disk.{View}
 use Rattle.journal_defs.specs.Journal.{JournalRecord, Part}
 use Rattle.journal_defs.specs.Instance.{generation, regions}
@@ -14,18 +12,37 @@ use Rattle.region_journals.specs.Fronts.{IsNewestFile}
 use Rattle.region_journals.specs.Journals.{KeepsJournals, part_in, listed}
 use Rattle.site_regions.specs.Joined.{joined, AreChanged}
 use Rattle.site_store.specs.declared.site.OpenSite.{OpenSite}
+use Rattle.site_store.specs.Site.{count_of}
+use Rattle.entry_index.specs.declared.index.EntryIndex.{EntryIndex}
+use Rattle.entry_index.specs.declared.place.PartPlace.{PartPlace}
+use Rattle.entry_index.specs.Parts.{NOWHERE}
+use Rattle.region_journals.specs.declared.journals.RegionJournal.{RegionJournal}
 
--- the next entry of a site: this transaction under the reign that was begun
-pub record IsNextEntry (s : OpenSite) (t : code_transaction.Transaction) (e : code_entry.Entry) : Type 0 where
-  pub number : e.number ≡ length s.entries + 1
-  pub stamp : s.stamp ≡ Some e.stamp
-  pub transaction : e.transaction ≡ t
+-- where a region's part of the next entry stands: behind all that its newest journal has; nowhere where it has no part
+abbrev pub place_behind : Option JournalRecord → Option RegionJournal → PartPlace
+place_behind None x = NOWHERE
+place_behind (Some part) None = NOWHERE
+place_behind (Some part) (Some x) = record { generation = x.journal.generation; offset = x.journal.gated.end }
 
--- it's in memory
-pub record Enters (old new : OpenSite) (t : code_transaction.Transaction) : Type 0 where
-  pub entry : code_entry.Entry
-  pub next : IsNextEntry old t entry
-  pub entries : new.entries ≡ old.entries ++ entry_value entry ∷ []
+abbrev pub next_place : PartRecords → List RegionJournal → ℕ → PartPlace
+next_place parts js r = place_behind (part_in parts r) (slice_get js r)
+
+-- an index with one row more: the places of these parts behind these journals
+pub record AddsPlaces (parts : PartRecords) (js : List RegionJournal) (old new : EntryIndex) : Type 0 where
+  pub row : List PartPlace
+  pub places : new.places.items ≡ old.places.items ++ row
+  pub regions : new.regions ≡ old.regions
+  pub count : length row ≡ old.regions
+  pub each : (r : ℕ) → r < old.regions → get_or row r NOWHERE ≡ next_place parts js r
+
+-- an index with the same places, though there may be more room
+pub record IsSameIndex (old new : EntryIndex) : Type 0 where
+  pub regions : new.regions ≡ old.regions
+  pub places : new.places.items ≡ old.places.items
+
+-- its places are in the index, and its updates are made
+pub record Enters (old new : OpenSite) (t : code_transaction.Transaction) (parts : PartRecords) : Type 0 where
+  pub places : AddsPlaces parts new.journals.journals.items old.entries new.entries
   pub globals : joined new.globals ≡ fold apply (joined old.globals) t.updates
   pub changed : AreChanged old.globals new.globals
 
@@ -39,7 +56,7 @@ pub record IsSameSite (old new : OpenSite) : Type 0 where
 -- and when none comes
 pub record IsSameMemory (old new : OpenSite) : Type 0 where
   pub same : IsSameSite old new
-  pub entries : new.entries ≡ old.entries
+  pub entries : IsSameIndex old.entries new.entries
   pub globals : joined new.globals ≡ joined old.globals
   -- though there may be more room
   pub changed : AreChanged old.globals new.globals
@@ -54,7 +71,7 @@ region_by s = region_of_update s.layout.directory.patterns
 
 -- the parts of a transaction as the next entry of a site
 abbrev pub parts_of : OpenSite → Transaction → ℕ → Option Part
-parts_of s t = split (region_by s) (length s.entries + 1) (mask_of (region_by s) t.updates) t
+parts_of s t = split (region_by s) (count_of s + 1) (mask_of (region_by s) t.updates) t
 
 -- These are the records of those parts, each in its region.
 pub record ArePartsOf (s : OpenSite) (t : Transaction) (parts : PartRecords) : Type 0 where

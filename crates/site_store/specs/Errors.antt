@@ -6,6 +6,8 @@ use Rattle.site_files.specs.declared.error.FilesError.{FilesError}
 use Rattle.site_files.specs.declared.error.FilesError.TheVariants as files
 use Rattle.region_store.specs.declared.error.RegionError.{RegionError}
 use Rattle.region_store.specs.declared.error.RegionError.TheVariants as regions
+use Rattle.entry_index.specs.declared.error.IndexError.{IndexError}
+use Rattle.entry_index.specs.declared.error.IndexError.TheVariants as index
 use Rattle.site_store.specs.declared.error.SiteError.{SiteError}
 use Rattle.site_store.specs.declared.error.SiteError.TheVariants as error
 
@@ -24,3 +26,8 @@ abbrev pub region_error : RegionError → SiteError
 region_error (regions.Failed fault) = error.Failed fault
 region_error (regions.NotAFile file offset) = error.NotAFile file offset
 region_error regions.NoMemory = error.NoMemory
+
+abbrev pub index_error : ℕ → IndexError → SiteError
+index_error fault index.Failed = error.Failed fault
+index_error fault (index.NotAFile file offset) = error.NotAFile file offset
+index_error fault index.NoMemory = error.NoMemory

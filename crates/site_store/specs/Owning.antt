@@ -9,7 +9,7 @@ use Rattle.site_defs.specs.Epochs.{MayMark}
 use Rattle.site_defs.specs.Fronts.{IsFrontOf}
 use Rattle.site_store.specs.declared.owning.Site.{Site}
 use Rattle.site_store.specs.declared.site.OpenSite.{OpenSite}
-use Rattle.site_store.specs.Site.{IsReady, IsOpen}
+use Rattle.site_store.specs.Site.{IsReady, IsOpen, count_of}
 
 -- a call failed, the one of that number on the disk
 abbrev pub HasStopped : {D : Type 0} → ℕ → Site D → Type 0
@@ -17,7 +17,7 @@ HasStopped fault s = s.fault ≡ Some fault
 
 -- its history: how many entries there are, and the reigns that no later CUT dropped
 pub record HasHistory (s : OpenSite) (h : History) : Type 0 where
-  pub count : h.length ≡ length s.entries
+  pub count : h.length ≡ count_of s
   pub surviving : h.reigns ≡ reigns s.instance.records
 
 -- No call failed, its files are open for calls, and its history is at hand.

@@ -6,6 +6,7 @@ use Rattle.journal_defs.specs.Surviving.{reigns}
 use Rattle.journal_defs.specs.Fit.{MOST_REIGNS}
 use Rattle.site_defs.specs.Limits.{LAST_CYCLE}
 use Rattle.site_store.specs.declared.site.OpenSite.{OpenSite}
+use Rattle.site_store.specs.Site.{count_of}
 
 -- there are as many reigns as there may be, or one has the last cycle
 abbrev pub HasNoReignLeft : OpenSite → Type 0
@@ -20,4 +21,4 @@ pub record HasReignLeft (s : OpenSite) : Type 0 where
 pub record IsNextReign (s : OpenSite) (r : Reign) : Type 0 where
   pub root : r.stamp.root ≡ site_name s.instance.records
   pub cycle : r.stamp.cycle ≡ greatest_cycle s.instance.records + 1
-  pub start : r.start ≡ length s.entries + 1
+  pub start : r.start ≡ count_of s + 1

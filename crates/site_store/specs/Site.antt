@@ -31,14 +31,21 @@ use Rattle.site_defs.specs.Contents.{Contents}
 use Rattle.site_defs.specs.Fronts.{with_sequence}
 use Rattle.site_defs.specs.Stands.{IsSite}
 use Rattle.site_defs.specs.Behind.{parts_of_each}
+use Rattle.jnl_index.specs.Order.{StandUpTo}
+use Rattle.entry_index.specs.Found.{entry_count, IsWhole}
+use Rattle.entry_index.specs.Among.{IsIndexOf}
 use Rattle.site_store.specs.Finding.{HasLayout}
 use Rattle.site_store.specs.declared.site.OpenSite.{OpenSite}
 
--- What a site has in memory, whatever its disk tells: the records of its instance file, as many entries as these, and the globals that these
--- lead to. How many are hardened is known too.
+-- how many entries an open site has
+abbrev pub count_of : OpenSite → ℕ
+count_of s = entry_count s.entries
+
+-- What a site has in memory, whatever its disk tells: the records of its instance file, places of as many entries as these, and the globals
+-- that these lead to. How many are hardened is known too.
 pub record Remembers (c : Contents) (h : ℕ) (s : OpenSite) : Type 0 where
   pub instance : s.instance.records ≡ c.instance
-  pub count : length s.entries ≡ length c.sequence
+  pub count : count_of s ≡ length c.sequence
   pub globals : joined s.globals ≡ state c.sequence
   pub hardened : s.hardened ≡ h
 
@@ -54,8 +61,12 @@ pub record IsReady (v : View) (s : OpenSite) : Type 0 where
   pub layout : HasLayout s.instance.records s.layout
   pub journals : AreReady v (generation s.instance.records) s.journals.journals.items
   pub each_region : length s.journals.journals.items ≡ length (regions s.instance.records)
+  -- a place for each region of each entry
+  pub whole : IsWhole s.entries
+  pub some_place : 1 ≤ s.entries.regions
+  pub each_place : s.entries.regions ≡ length (regions s.instance.records)
   pub regions : AreHeld v (length (regions s.instance.records)) s.globals
-  pub few : length s.entries < 2 ^ 40
+  pub few : count_of s < 2 ^ 40
 
 -- The records of a site whose newest generation g + 1 has begun in each region: the journals of that generation alone may grow.
 pub record AreNewest (c : Contents) (s : Records) (g : ℕ) (last : ℕ → ℕ) (older : ℕ → List Placed) (newer : ℕ → List JournalRecord) : Type 0 where
@@ -108,6 +119,7 @@ pub record Keeps (v : View) (c : Contents) (hardened : ℕ) (s : OpenSite) : Typ
   pub newest : AreNewest c records g last older newer
   pub sound : (f : Files) → Image v f → IsSoundImage f records (take hardened c.sequence)
   pub older_files : (f : Files) → Image v f → (r : ℕ) → r < length (regions c.instance) → IsJournal f r g (last r) (older r)
+  pub older_stand : (f : Files) → Image v f → (r : ℕ) → r < length (regions c.instance) → StandUpTo f r g (older r)
   pub none_past : NonePast hardened records
   pub blocks : (f : Files) → Image v f → AreOnBlocks f records hardened s.globals
   pub databases : AreSynced v (length (regions c.instance))
@@ -117,29 +129,31 @@ pub record Keeps (v : View) (c : Contents) (hardened : ℕ) (s : OpenSite) : Typ
   pub are_waiting : AreEntries c.instance (suc g) hardened waiting (drop hardened c.sequence)
   pub are_parts : waiting ≡ parts_of_each (patterns c.instance) hardened (drop hardened c.sequence)
   pub in_regions : AreInside (length (regions c.instance)) waiting
+  -- each entry's parts stand at its places, also of those that wait
+  pub indexed : IsIndexOf (λ r. records.journal r ++ appended (suc g) waiting r) (reigns c.instance) s.entries c.sequence
   pub at_home : (r : ℕ) → r < length (regions c.instance) → AllByRecursion (λ p. IsAtHome c.instance r p.generation p.what) (appended (suc g) waiting r)
   pub instance_file : instances.HasRecords v s.instance c.instance
   pub journal_files : KeepsJournals v newer (tcoms waiting) s.journals.journals.items
 
--- The site is open: it has these contents in memory, of which so many entries are hardened, and where its files are known, on the disk.
+-- The site is open: it has these contents, of which so many entries are hardened, and where its files are known they are on the disk.
 pub record IsOpen (v : View) (told : Bool) (c : Contents) (hardened : ℕ) (s : OpenSite) : Type 0 where
   pub remembered : Remembers c hardened s
-  pub entries : IsTrue told → s.entries ≡ c.sequence
   pub kept : IsTrue told → Keeps v c hardened s
 
 -- The site was opened, and nothing was done since: it has a name, all entries are hardened, and no reign has begun past them.
 pub record WasOpened (s : OpenSite) : Type 0 where
   pub created : 0 < length s.instance.records
   pub name : IsSiteName (site_name s.instance.records)
-  pub hardened : s.hardened ≡ length s.entries
-  pub few : length s.entries < 2 ^ 40
-  pub no_reign_past : AllByRecursion (λ (r : defs.Reign). r.start ≤ length s.entries) (reigns s.instance.records)
+  pub hardened : s.hardened ≡ count_of s
+  pub few : count_of s < 2 ^ 40
+  pub no_reign_past : AllByRecursion (λ (r : defs.Reign). r.start ≤ count_of s) (reigns s.instance.records)
   pub no_reign : s.stamp ≡ None
 
--- It was opened from these records, which stand for this sequence: its entries are the sequence, and its instance file's records are
--- theirs and the CUT at its length.
+-- It was opened from these records, which stand for this sequence: it has the places of its entries among them, and its instance file's
+-- records are theirs and the CUT at its length.
 pub record WasOpenedFrom (u : Records) (seq : Sequence) (s : OpenSite) : Type 0 where
-  pub entries : s.entries ≡ seq
+  pub count : count_of s ≡ length seq
+  pub indexed : IsIndexOf u.journal (reigns u.instance) s.entries seq
   pub instance : s.instance.records ≡ u.instance ++ Cut (length seq) (generation u.instance + 1) ∷ []
 
 -- a reign was begun
@@ -147,7 +161,7 @@ pub record HasReign (s : OpenSite) : Type 0 where
   pub stamp : Stamp
   pub is : s.stamp ≡ Some stamp
   -- it covers the entries to come
-  pub covers : (n : ℕ) → length s.entries < n → stamp_at n (reigns s.instance.records) ≡ Some (stamp_value stamp)
+  pub covers : (n : ℕ) → count_of s < n → stamp_at n (reigns s.instance.records) ≡ Some (stamp_value stamp)
 
 -- with the entry of this transaction, under a stamp
 abbrev pub with_entry : Option Stamp → defs.Transaction → Contents → Contents

@@ -1,9 +1,8 @@
 //! Giving a site entries.
-ghost use Rattle.std.specs.Prelude.{◌≡◌, ◌⊎◌, ◌≤◌, ◌<◌, ◌+◌, ◌^◌, ◌++◌, ◌∷◌, [], ℕ, List, Bool, true, length, take, Some, None, IfOk, IfSome, OnOk, OnErr, IsErrOf, IsSome};
-ghost use Rattle.disk_defs.specs.Disk.{Files, Image, AtEachMoment, Rose};
+ghost use Rattle.std.specs.Prelude.{◌≡◌, ◌⊎◌, ◌≤◌, ◌<◌, ◌+◌, ◌^◌, ℕ, List, Bool, true, length, take, IfOk, IfSome, OnOk, OnErr, IsErrOf, IsSome};
+ghost use Rattle.disk_defs.specs.Disk.{Image, AtEachMoment, Rose};
 ghost use Rattle.global_defs.specs.Fields.{IsTransaction};
 ghost use Rattle.gvn_model.specs.Entries.{transaction_value};
-ghost use Rattle.gvn_model.specs.Reigns.{stamp_value};
 ghost use Rattle.site_defs.specs.Contents.{Contents, Standing, NO_LEFTOVER};
 ghost use Rattle.site_defs.specs.Behind.{IsFrontLeft, IsSiteWith};
 ghost use Rattle.site_defs.specs.Fronts.{with_sequence, IsFrontOf};
@@ -13,7 +12,7 @@ ghost use Rattle.journal_defs.specs.Journal.{JournalRecord};
 ghost use Rattle.region_journals.specs.Journals.{ArePrepared, KeepsJournals};
 ghost use Rattle.site_regions.specs.Joined.{joined, AreChanged};
 ghost use Rattle.site_store.specs.Committing.{Appends, Enters, IsSameSite, IsSameMemory, IsOwnJournal, ArePartsOf};
-ghost use Rattle.site_store.specs.Site.{IsReady, IsOpen, HasReign, HasRoomFor, with_entry};
+ghost use Rattle.site_store.specs.Site.{IsReady, IsOpen, HasReign, HasRoomFor, count_of, with_entry};
 
 use crate::error::SiteError;
 use crate::fitting::check_room;
@@ -28,20 +27,21 @@ use tp_commit::{PartRecords, entry_records};
 const LAST_NUMBER: u64 = (1 << 40) - 1;
 
 impl OpenSite {
-    /// Takes all memory and room for a transaction as the next entry, and takes it into memory. Without memory nothing has changed but
-    /// what room there is.
+    /// Takes all memory and room for a transaction as the next entry, adds where its parts will stand, and makes its updates. Without
+    /// memory nothing has changed but what room there is.
     fn prepare<D: Disk>(
         &mut self,
         alloc: Global,
         disk: &mut D,
-        t: Transaction,
+        t: &Transaction,
     ) -> Result<PartRecords, NoMemory>
         requires ready { IsReady (D.disk disk.old) self.old }
-        requires form { IsTransaction (transaction_value t) }
-        requires room { length self.old.entries + 1 < 2 ^ 40 }
+        requires form { IsTransaction (transaction_value t.now) }
+        requires room { count_of self.old + 1 < 2 ^ 40 }
+        requires reign { HasReign self.old }
         ensures ready { IsReady (D.disk disk.new) self.new }
-        ensures enters { OnOk result (Enters self.old self.new t) }
-        ensures parts { IfOk result (ArePartsOf self.old (transaction_value t)) }
+        ensures enters { IfOk result (Enters self.old self.new t.now) }
+        ensures parts { IfOk result (ArePartsOf self.old (transaction_value t.now)) }
         ensures prepared { IfOk result (λ made. ArePrepared made self.new.journals.journals.items) }
         ensures state { (hard waiting : ℕ → List JournalRecord) → KeepsJournals (D.disk disk.old) hard waiting self.old.journals.journals.items → KeepsJournals (D.disk disk.new) hard waiting self.new.journals.journals.items }
         ensures same { IsSameSite self.old self.new }
@@ -51,43 +51,41 @@ impl OpenSite {
         ensures frame { OthersStay (IsOwnJournal self.old) (D.disk disk.old) (D.disk disk.new) }
         ensures faults { (D.disk disk.new).faults ≡ (D.disk disk.old).faults }
     {
-        let entry = self.next_entry(t)?;
-        let parts = entry_records(
-            alloc,
-            entry.number,
-            &entry.transaction,
-            &self.layout.directory,
-        )?;
+        let number = self.entries.len() + 1;
+        let parts = entry_records(alloc, number, t, &self.layout.directory)?;
         self.journals.prepare(disk, &parts)?;
-        self.remember(entry)?;
+        self.remember(t, &parts)?;
         Ok(parts)
     }
 
-    /// Does what [`commit`](OpenSite::commit) does, of a transaction that becomes the entry itself: no copy of it is made.
+    /// Makes a transaction the next entry, under the reign that was begun: takes all memory, and then appends to the journal of each
+    /// region that it has updates in exactly those. It answers the entry's number. The entry is on the disk for good once it's hardened.
     ///
     /// # Errors
-    /// As [`commit`](OpenSite::commit)'s.
-    pub fn commit_owned<D: Disk>(
+    /// `Full` exactly where more than 100,000 nodes would stand after one of its updates, `SeqLimit` exactly where the last number
+    /// is used up, and `NoMemory`: nothing has changed after these three, but that there may be more room. `Failed` only where the
+    /// disk's count rose; the site is of no more use then.
+    pub fn commit<D: Disk>(
         &mut self,
         alloc: Global,
         disk: &mut D,
-        t: Transaction,
+        t: &Transaction,
     ) -> Result<u64, SiteError>
         requires ready { IsReady (D.disk disk.old) self.old }
-        requires form { IsTransaction (transaction_value t) }
+        requires form { IsTransaction (transaction_value t.now) }
         requires reign { HasReign self.old }
         ensures ready { OnOk result (IsReady (D.disk disk.new) self.new) }
-        ensures done { OnOk result ((told : Bool) (c : Contents) (h : ℕ) → IsOpen (D.disk disk.old) told c h self.old → IsOpen (D.disk disk.new) told (with_entry self.old.stamp (transaction_value t) c) h self.new) }
-        ensures appended { OnOk result (Appends (D.disk disk.old) (D.disk disk.new) self.old self.new (transaction_value t)) }
-        ensures number { IfOk result (λ n. n ≡ length self.old.entries + 1) }
-        ensures grown { OnOk result (length self.new.entries ≡ length self.old.entries + 1) }
+        ensures done { OnOk result ((told : Bool) (c : Contents) (h : ℕ) → IsOpen (D.disk disk.old) told c h self.old → IsOpen (D.disk disk.new) told (with_entry self.old.stamp (transaction_value t.now) c) h self.new) }
+        ensures appended { OnOk result (Appends (D.disk disk.old) (D.disk disk.new) self.old self.new (transaction_value t.now)) }
+        ensures number { IfOk result (λ n. n ≡ count_of self.old + 1) }
+        ensures grown { OnOk result (count_of self.new ≡ count_of self.old + 1) }
         ensures instance { self.new.instance ≡ self.old.instance }
         ensures stamp { self.new.stamp ≡ self.old.stamp }
         ensures reign { OnOk result (HasReign self.new) }
-        ensures room { OnOk result (length self.old.entries + 1 < 2 ^ 40) }
-        ensures fits { OnOk result (HasRoomFor (joined self.old.globals) t.updates) }
-        ensures full { (nodes : ℕ) → IsErrOf result (SiteError.Full nodes) → HasRoomFor (joined self.old.globals) t.updates → ⊥ }
-        ensures last { IsErrOf result SiteError.SeqLimit → 2 ^ 40 ≤ length self.old.entries + 1 }
+        ensures room { OnOk result (count_of self.old + 1 < 2 ^ 40) }
+        ensures fits { OnOk result (HasRoomFor (joined self.old.globals) t.now.updates) }
+        ensures full { (nodes : ℕ) → IsErrOf result (SiteError.Full nodes) → HasRoomFor (joined self.old.globals) t.now.updates → ⊥ }
+        ensures last { IsErrOf result SiteError.SeqLimit → 2 ^ 40 ≤ count_of self.old + 1 }
         ensures kept { ((nodes : ℕ) × IsErrOf result (SiteError.Full nodes)) ⊎ IsErrOf result SiteError.SeqLimit → (disk.new ≡ disk.old) × (self.new ≡ self.old) }
         ensures unmade { IsErrOf result SiteError.NoMemory → IsSameMemory self.old self.new }
         ensures goes_on { IsErrOf result SiteError.NoMemory → IsReady (D.disk disk.new) self.new }
@@ -116,53 +114,6 @@ impl OpenSite {
         }
     }
 
-    /// Makes a transaction the next entry, under the reign that was begun: takes all memory, and then appends to the journal of each
-    /// region that it has updates in exactly those. It answers the entry's number. The entry is on the disk for good once it's hardened.
-    ///
-    /// # Errors
-    /// `Full` exactly where more than 100,000 nodes would stand after one of its updates, `SeqLimit` exactly where the last number
-    /// is used up, and `NoMemory`: nothing has changed after these three, but that there may be more room. `Failed` only where the
-    /// disk's count rose; the site is of no more use then.
-    pub fn commit<D: Disk>(
-        &mut self,
-        alloc: Global,
-        disk: &mut D,
-        t: &Transaction,
-    ) -> Result<u64, SiteError>
-        requires ready { IsReady (D.disk disk.old) self.old }
-        requires form { IsTransaction (transaction_value t.now) }
-        requires reign { HasReign self.old }
-        ensures ready { OnOk result (IsReady (D.disk disk.new) self.new) }
-        ensures done { OnOk result ((told : Bool) (c : Contents) (h : ℕ) → IsOpen (D.disk disk.old) told c h self.old → IsOpen (D.disk disk.new) told (with_entry self.old.stamp (transaction_value t.now) c) h self.new) }
-        ensures appended { OnOk result (Appends (D.disk disk.old) (D.disk disk.new) self.old self.new (transaction_value t.now)) }
-        ensures number { IfOk result (λ n. n ≡ length self.old.entries + 1) }
-        ensures grown { OnOk result (length self.new.entries ≡ length self.old.entries + 1) }
-        ensures instance { self.new.instance ≡ self.old.instance }
-        ensures stamp { self.new.stamp ≡ self.old.stamp }
-        ensures reign { OnOk result (HasReign self.new) }
-        ensures room { OnOk result (length self.old.entries + 1 < 2 ^ 40) }
-        ensures fits { OnOk result (HasRoomFor (joined self.old.globals) t.now.updates) }
-        ensures full { (nodes : ℕ) → IsErrOf result (SiteError.Full nodes) → HasRoomFor (joined self.old.globals) t.now.updates → ⊥ }
-        ensures last { IsErrOf result SiteError.SeqLimit → 2 ^ 40 ≤ length self.old.entries + 1 }
-        ensures kept { ((nodes : ℕ) × IsErrOf result (SiteError.Full nodes)) ⊎ IsErrOf result SiteError.SeqLimit → (disk.new ≡ disk.old) × (self.new ≡ self.old) }
-        ensures unmade { IsErrOf result SiteError.NoMemory → IsSameMemory self.old self.new }
-        ensures goes_on { IsErrOf result SiteError.NoMemory → IsReady (D.disk disk.new) self.new }
-        ensures stays_open { IsErrOf result SiteError.NoMemory → (told : Bool) (c : Contents) (h : ℕ) → IsOpen (D.disk disk.old) told c h self.old → IsOpen (D.disk disk.new) told c h self.new }
-        ensures any_moment { (c : Contents) (h : ℕ) → IsOpen (D.disk disk.old) true c h self.old → AtEachMoment (D.disk disk.old) (D.disk disk.new) (λ f. IsSite f (with_sequence c (take h c.sequence))) }
-        ensures bare { (c : Contents) (h : ℕ) → IsOpen (D.disk disk.old) true c h self.old → AtEachMoment (D.disk disk.old) (D.disk disk.new) (λ f. HasLeft f (with_sequence c (take h c.sequence)) NO_LEFTOVER) }
-        ensures stands { (c : Contents) (h : ℕ) → IsOpen (D.disk disk.old) true c h self.old → IfSome (D.disk disk.new).content (λ f. IsSite f (with_sequence c (take h c.sequence))) }
-        ensures still_told { IsSome (D.disk disk.old).content → IsSome (D.disk disk.new).content }
-        ensures simulated { (D.disk disk.new).simulated ≡ (D.disk disk.old).simulated }
-        ensures later { (D.disk disk.old).faults ≤ (D.disk disk.new).faults }
-        ensures count { (fault : ℕ) → IsErrOf result (SiteError.Failed fault) → fault ≡ (D.disk disk.new).faults }
-        ensures cause { (fault : ℕ) → IsErrOf result (SiteError.Failed fault) → Rose (D.disk disk.old).faults (D.disk disk.new).faults }
-        ensures no_stop { (fault : ℕ) → IsErrOf result (SiteError.Stopped fault) → ⊥ }
-        ensures no_other { IsErrOf result SiteError.GenLimit ⊎ IsErrOf result SiteError.ReignLimit ⊎ ((region : ℕ) × IsErrOf result (SiteError.NeedForward region)) ⊎ ((file : ℕ) × (offset : ℕ) × IsErrOf result (SiteError.NotAFile file offset)) → ⊥ }
-    {
-        let own = t.copy()?;
-        self.commit_owned(alloc, disk, own)
-    }
-
     /// Puts all entries on the disk for good, and answers how many there are. It takes no memory.
     ///
     /// # Errors
@@ -171,10 +122,10 @@ impl OpenSite {
         requires ready { IsReady (D.disk disk.old) self.old }
         ensures ready { OnOk result (IsReady (D.disk disk.new) self.new) }
         ensures done { OnOk result ((told : Bool) (c : Contents) (h : ℕ) → IsOpen (D.disk disk.old) told c h self.old → IsOpen (D.disk disk.new) told c (length c.sequence) self.new) }
-        ensures length { IfOk result (λ n. n ≡ length self.old.entries) }
+        ensures length { IfOk result (λ n. n ≡ count_of self.old) }
         ensures entries { self.new.entries ≡ self.old.entries }
         ensures instance { self.new.instance ≡ self.old.instance }
-        ensures all { OnOk result (self.new.hardened ≡ length self.new.entries) }
+        ensures all { OnOk result (self.new.hardened ≡ count_of self.new) }
         ensures stamp { self.new.stamp ≡ self.old.stamp }
         ensures reign { HasReign self.old → HasReign self.new }
         ensures any_moment { (c : Contents) (h : ℕ) → IsOpen (D.disk disk.old) true c h self.old → AtEachMoment (D.disk disk.old) (D.disk disk.new) (λ f. (o : Contents) × IsFrontOf c.sequence h c o × IsSite f o) }

@@ -1,5 +1,5 @@
 //! Making a site, and finding what stands on a disk.
-ghost use Rattle.std.specs.Prelude.{◌≡◌, ◌⊎◌, ◌≤◌, ℕ, true, List, [], map, length, Some, None, IfOk, IfSome, OnOk, IsErrOf, IsSome};
+ghost use Rattle.std.specs.Prelude.{◌≡◌, ◌⊎◌, ◌≤◌, ℕ, List, [], map, Some, None, IfOk, IfSome, OnOk, IsErrOf, IsSome};
 ghost use Rattle.disk_defs.specs.Disk.{Files, Image, AtEachMoment, Rose};
 ghost use Rattle.disk_defs.specs.Gates.{records};
 ghost use Rattle.journal_defs.specs.Numbers.{INSTANCE};

@@ -1,50 +1,66 @@
-//! Entries into memory.
-ghost use Rattle.std.specs.Prelude.{◌≡◌, ◌<◌, ◌+◌, ◌^◌, ◌++◌, ◌∷◌, [], length, fold, IfOk, OnOk, OnErr};
+//! Entries into the index and the regions.
+ghost use Rattle.std.specs.Prelude.{◌≡◌, ◌≤◌, ◌<◌, ℕ, fold, get_or, OnOk, OnErr};
 ghost use Rattle.global_defs.specs.Entry.{apply};
 ghost use Rattle.global_defs.specs.Fields.{IsTransaction};
-ghost use Rattle.gvn_model.specs.Entries.{entry_value, transaction_value};
+ghost use Rattle.gvn_model.specs.Entries.{transaction_value};
+ghost use Rattle.entry_index.specs.Parts as places;
 ghost use Rattle.site_regions.specs.Joined.{joined, AreChanged};
-ghost use Rattle.site_store.specs.Site.{HasReign};
-ghost use Rattle.site_store.specs.Committing.{IsNextEntry, IsSameMemory, IsSameSite};
+ghost use Rattle.site_store.specs.Committing.{IsSameMemory, IsSameSite, AddsPlaces, next_place};
 
 use crate::site::OpenSite;
+use entry_index::{NOWHERE, PartPlace};
 use gvn_key::NoMemory;
-use gvn_model::{Entry, Transaction};
+use gvn_model::Transaction;
+use region_journals::RegionJournals;
+use tp_commit::PartRecords;
+
+/// How many regions there may be.
+const MOST_REGIONS: usize = 8;
+
+/// Where a region's part of the next entry will stand: behind all that its newest journal has, or nowhere where it has no part.
+fn next_place(journals: &RegionJournals, parts: &PartRecords, region: u8) -> PartPlace
+    requires { region < 8 }
+    ensures { result ≡ next_place parts.now journals.now.journals.items region }
+{
+    let behind = journals.journals.get(usize::from(region));
+    match (parts.record(region), behind) {
+        (Some(_), Some(behind)) => PartPlace {
+            generation: behind.journal.generation,
+            offset: behind.journal.gated.end,
+        },
+        _ => NOWHERE,
+    }
+}
+
+/// Where the parts of the next entry will stand, by region.
+fn next_places(journals: &RegionJournals, parts: &PartRecords) -> [PartPlace; MOST_REGIONS]
+    ensures { (r : ℕ) → r < 8 → get_or result r places.NOWHERE ≡ next_place parts.now journals.now.journals.items r }
+{
+    let mut row = [NOWHERE; MOST_REGIONS];
+    for region in 0..MOST_REGIONS {
+        row[region] = next_place(journals, parts, region as u8);
+    }
+    row
+}
 
 impl OpenSite {
-    /// This transaction as the next entry, under the reign that was begun.
-    pub(crate) fn next_entry(&self, t: Transaction) -> Result<Entry, NoMemory>
-        requires { length self.now.entries + 1 < 2 ^ 40 }
-        ensures { IfOk result (IsNextEntry self.now t) }
-    {
-        let Some(stamp) = &self.stamp else {
-            return Err(NoMemory);
-        };
-        Ok(Entry {
-            number: self.entries.len() + 1,
-            stamp: stamp.copy()?,
-            transaction: t,
-        })
-    }
-
-    /// Adds an entry to those in memory, and makes its updates. Without memory nothing has changed but what room there is.
-    pub(crate) fn remember(&mut self, entry: Entry) -> Result<(), NoMemory>
-        requires form { IsTransaction (transaction_value entry.transaction) }
-        requires number { entry.number ≡ length self.old.entries + 1 }
-        ensures entries { OnOk result (self.new.entries ≡ self.old.entries ++ entry_value entry ∷ []) }
-        ensures globals { OnOk result (joined self.new.globals ≡ fold apply (joined self.old.globals) entry.transaction.updates) }
+    /// Adds the places where the parts of an entry will stand, and makes its updates. Without memory nothing has changed but what room
+    /// there is.
+    pub(crate) fn remember(&mut self, t: &Transaction, parts: &PartRecords) -> Result<(), NoMemory>
+        requires form { IsTransaction (transaction_value t.now) }
+        requires few { self.old.entries.regions ≤ 8 }
+        ensures entries { OnOk result (AddsPlaces parts.now self.new.journals.journals.items self.old.entries self.new.entries) }
+        ensures globals { OnOk result (joined self.new.globals ≡ fold apply (joined self.old.globals) t.now.updates) }
         ensures kept { OnErr result (IsSameMemory self.old self.new) }
         ensures changed { AreChanged self.old.globals self.new.globals }
         ensures same { IsSameSite self.old self.new }
         ensures journals { self.new.journals ≡ self.old.journals }
     {
-        let number = entry.number;
-        self.globals.reserve(entry.transaction.updates.as_slice())?;
-        self.entries.push(entry)?;
-        let Some(added) = self.entries.get(number) else {
-            unreachable!();
-        };
-        self.globals.make(added.transaction.updates.as_slice());
+        self.globals.reserve(t.updates.as_slice())?;
+        let row = next_places(&self.journals, parts);
+        let regions = usize::from(self.entries.regions);
+        self.entries.push(&row[..regions])?;
+        self.globals.make(t.updates.as_slice());
         Ok(())
     }
 }

@@ -51,7 +51,7 @@ pub fn history_of<D: Disk>(alloc: Global, disk: &mut D) -> Result<History, SiteE
     ensures causes { OnErr result (((fault : ℕ) × IsErrOf result (SiteError.Failed fault)) ⊎ ((file : ℕ) × (offset : ℕ) × IsErrOf result (SiteError.NotAFile file offset)) ⊎ IsErrOf result SiteError.NoMemory) }
 {
     let read = read_records(alloc, disk)?;
-    let length = count_entries(alloc, &read.log, &read.journals)?;
+    let length = count_entries(alloc, disk, &read)?;
     let reigns = reigns_by(alloc, read.log.history.as_slice(), length)?;
     Ok(History { length, reigns })
 }

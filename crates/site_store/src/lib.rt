@@ -3,10 +3,10 @@
 //! A site has an instance file, and in each of its one to eight regions a journal for each generation and a database file of blocks.
 //! Opening reads what the files stand for, goes back in each region to its last epoch, and makes the updates of the entries behind it
 //! again, all in memory; it writes down what is broken behind the sequence, cuts there, and begins the next generation in each region, so
-//! that whatever a crash left past the sequence never counts again. An open site has all its entries in memory, and its globals in the
-//! blocks of its regions. Entries are committed, which appends the parts of each to the journals of its regions, and hardened together; an
-//! epoch writes the blocks that changed to the database files. Whatever a crash leaves at any moment, the files stand for the hardened
-//! entries and perhaps the first few of those that were being hardened, each of them whole.
+//! that whatever a crash left past the sequence never counts again. An open site has in memory where each entry's parts stand, and its
+//! globals in the blocks of its regions. Entries are committed, which appends the parts of each to the journals of its regions, and
+//! hardened together; an epoch writes the blocks that changed to the database files. Whatever a crash leaves at any moment, the files stand
+//! for the hardened entries and perhaps the first few of those that were being hardened, each of them whole.
 #![tactic(auto)]
 
 mod committing;
@@ -41,5 +41,6 @@ pub use opening::{load, load_anew};
 pub use owning::Site;
 pub use preparing::{FoundFiles, StandingSite, find_files, stand};
 pub use reading::read_file;
+pub use showing::write_entry;
 pub use site::OpenSite;
 pub use site_files::created_name;

@@ -1,7 +1,9 @@
 //! Regions that need forward recovery.
-ghost use Rattle.std.specs.Prelude.{◌≡◌, None, IfOk, IfSome};
+ghost use Rattle.std.specs.Prelude.{◌≡◌, ℕ, List, None, IfOk, IfSome};
+ghost use Rattle.journal_defs.specs.Sequence.{Placed};
 ghost use Rattle.site_store.specs.Needing.{IsFirstWithout, NoneIsWithout};
-ghost use Rattle.site_store.specs.Standing.{HasFound, found_records};
+ghost use Rattle.site_store.specs.Standing.{HasFound, found_records, found_signs};
+ghost use Rattle.region_opening.specs.Signs.{AllSay};
 
 use crate::preparing::FoundFiles;
 use gvn_key::NoMemory;
@@ -16,12 +18,8 @@ pub fn first_needing(
     target: u64,
 ) -> Result<Option<WithoutImages>, NoMemory>
     requires has { HasFound found.now }
-    ensures none { IfOk result (λ first. first ≡ None → NoneIsWithout (found_records found.now) target) }
-    ensures first { IfOk result (λ first. IfSome first (λ x. IsFirstWithout (found_records found.now) target x.region x.generation)) }
+    ensures none { IfOk result (λ first. first ≡ None → (journal : ℕ → List Placed) → AllSay (found_signs found.now) journal → NoneIsWithout (found_records found.now journal) target) }
+    ensures first { IfOk result (λ first. IfSome first (λ x. (journal : ℕ → List Placed) → AllSay (found_signs found.now) journal → IsFirstWithout (found_records found.now journal) target x.region x.generation)) }
 {
-    let records = &found.read.log.records;
-    let journals = found.read.journals.as_slice();
-    // a list for each region, and no more
-    let regions = usize::from(found.read.directory.regions()).min(journals.len());
-    first_without_images(alloc, records, &journals[..regions], target)
+    first_without_images(alloc, &found.read.log.records, &found.read.signs, target)
 }

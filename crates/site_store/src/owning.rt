@@ -32,7 +32,7 @@ ghost use Rattle.site_defs.specs.OutsideBlocks.{IsOutsideOpening};
 ghost use Rattle.site_regions.specs.Joined.{joined};
 ghost use Rattle.site_store.specs.Needing.{NoneIsWithout, NoneNeeds, HaveFirstWithout};
 ghost use Rattle.site_store.specs.Refusing.{IsUnwritten};
-ghost use Rattle.site_store.specs.Site.{Remembers, WasOpened, WasOpenedFrom, HasReign, HasRoomFor, with_entry};
+ghost use Rattle.site_store.specs.Site.{Remembers, WasOpened, WasOpenedFrom, HasReign, HasRoomFor, with_entry, count_of};
 ghost use Rattle.site_store.specs.Opening.{region_value, made, MayMake, MayBeOpen, EachStands};
 ghost use Rattle.site_store.specs.Committing.{Appends, IsSameMemory};
 ghost use Rattle.site_store.specs.Reigning.{IsNextReign, HasReignLeft, HasNoReignLeft};
@@ -178,7 +178,7 @@ impl<D: Disk> Site<D> {
 
     /// The next reign, with all the memory that beginning it takes.
     fn next_reign(&self) -> Result<NextReign, SiteError>
-        requires few { length self.now.inner.entries < 2 ^ 40 }
+        requires few { count_of self.now.inner < 2 ^ 40 }
         ensures next { IfOk result (λ n. IsNextReign self.now.inner (reign_value n.reign)) }
         ensures stamp { IfOk result (λ n. stamp_value n.stamp ≡ (reign_value n.reign).stamp) }
         ensures kept { IfOk result (λ n. n.kept ≡ n.stamp) }
@@ -273,13 +273,13 @@ impl<D: Disk> Site<D> {
         ensures ready { OnOk result (IsGoing D.disk self.new) }
         ensures done { OnOk result ((told : Bool) (c : Contents) (h : ℕ) → IsOpenSite D.disk told c h self.old → IsOpenSite D.disk told (with_entry self.old.inner.stamp (transaction_value t.now) c) h self.new) }
         ensures appended { OnOk result (Appends (D.disk self.old.disk) (D.disk self.new.disk) self.old.inner self.new.inner (transaction_value t.now)) }
-        ensures number { IfOk result (λ n. n ≡ length self.old.inner.entries + 1) }
+        ensures number { IfOk result (λ n. n ≡ count_of self.old.inner + 1) }
         ensures stamp { self.new.inner.stamp ≡ self.old.inner.stamp }
         ensures reign { OnOk result (HasReign self.new.inner) }
-        ensures room { OnOk result (length self.old.inner.entries + 1 < 2 ^ 40) }
+        ensures room { OnOk result (count_of self.old.inner + 1 < 2 ^ 40) }
         ensures fits { OnOk result (HasRoomFor (joined self.old.inner.globals) t.now.updates) }
         ensures full { (nodes : ℕ) → IsErrOf result (SiteError.Full nodes) → HasRoomFor (joined self.old.inner.globals) t.now.updates → ⊥ }
-        ensures last { IsErrOf result SiteError.SeqLimit → 2 ^ 40 ≤ length self.old.inner.entries + 1 }
+        ensures last { IsErrOf result SiteError.SeqLimit → 2 ^ 40 ≤ count_of self.old.inner + 1 }
         ensures kept { ((nodes : ℕ) × IsErrOf result (SiteError.Full nodes)) ⊎ IsErrOf result SiteError.SeqLimit → self.new ≡ self.old }
         ensures unmade { IsErrOf result SiteError.NoMemory → IsSameMemory self.old.inner self.new.inner }
         ensures goes_on { IsErrOf result SiteError.NoMemory → IsGoing D.disk self.new }
@@ -323,11 +323,11 @@ impl<D: Disk> Site<D> {
         requires ready { MayBeCalled D.disk self.old }
         ensures ready { OnOk result (IsGoing D.disk self.new) }
         ensures done { OnOk result ((told : Bool) (c : Contents) (h : ℕ) → IsOpenSite D.disk told c h self.old → IsOpenSite D.disk told c (length c.sequence) self.new) }
-        ensures length { IfOk result (λ n. n ≡ length self.old.inner.entries) }
+        ensures length { IfOk result (λ n. n ≡ count_of self.old.inner) }
         ensures stamp { self.new.inner.stamp ≡ self.old.inner.stamp }
         ensures entries { self.new.inner.entries ≡ self.old.inner.entries }
         ensures reign { HasReign self.old.inner → HasReign self.new.inner }
-        ensures idle { self.old.fault ≡ None → self.old.inner.hardened ≡ length self.old.inner.entries → IsOk result × (self.new ≡ self.old) }
+        ensures idle { self.old.fault ≡ None → self.old.inner.hardened ≡ count_of self.old.inner → IsOk result × (self.new ≡ self.old) }
         ensures any_moment { (c : Contents) (h : ℕ) → IsOpenSite D.disk true c h self.old → AtEachMoment (D.disk self.old.disk) (D.disk self.new.disk) (λ f. (o : Contents) × IsFrontOf c.sequence h c o × IsSite f o) }
         ensures stands { (c : Contents) (h : ℕ) → IsOpenSite D.disk true c h self.old → IfSome (D.disk self.new.disk).content (λ f. (o : Contents) × IsFrontOf c.sequence h c o × IsSite f o) }
         ensures still_told { IsSome (D.disk self.old.disk).content → IsSome (D.disk self.new.disk).content }
@@ -478,7 +478,7 @@ impl<D: Disk> Site<D> {
 
     /// How many entries there are.
     pub fn sequence_length(&self) -> u64
-        ensures { result ≡ length self.now.inner.entries }
+        ensures { result ≡ count_of self.now.inner }
     {
         self.inner.sequence_length()
     }
@@ -538,26 +538,42 @@ impl<D: Disk> Site<D> {
     }
 
     /// Adds the extract lines of the entry of that number, where it's there: one line for its update, or a line for each between a
-    /// TSTART and a TCOM line.
+    /// TSTART and a TCOM line. It reads the entry's parts from the journals.
     ///
     /// # Errors
-    /// `Stopped` exactly where a call before failed. `NoMemory`. After both nothing is added.
+    /// `NotAFile` with the file and the place of a part, only where a read gave other bytes there than stood there. `Failed` only where
+    /// the disk's count rose. `Stopped` exactly where a call before failed. `NoMemory`. Nothing is added then.
     pub fn extract(&mut self, number: u64, out: &mut Bytes) -> Result<(), SiteError>
-        requires { 1 ≤ number }
-        ensures entry { OnOk result (IfSome (slice_get self.old.inner.entries (number - 1)) (λ e. out.new ≡ out.old ++ entry_text number e)) }
+        requires ready { MayBeCalled D.disk self.old }
+        requires first { 1 ≤ number }
+        ensures ready { MayBeCalled D.disk self.new }
+        ensures stays_open { (told : Bool) (c : Contents) (h : ℕ) → IsOpenSite D.disk told c h self.old → self.new.fault ≡ None → IsOpenSite D.disk told c h self.new }
         ensures opened { OnOk result ((c : Contents) (h : ℕ) → IsOpenSite D.disk true c h self.old → IfSome (slice_get c.sequence (number - 1)) (λ e. out.new ≡ out.old ++ entry_text number e)) }
-        ensures no_entry { slice_get self.old.inner.entries (number - 1) ≡ None → out.new ≡ out.old }
+        ensures no_entry { count_of self.old.inner < number → out.new ≡ out.old }
         ensures without { OnErr result (out.new ≡ out.old) }
-        ensures kept { self.new ≡ self.old }
-        ensures causes { OnErr result (((fault : ℕ) × IsErrOf result (SiteError.Stopped fault)) ⊎ IsErrOf result SiteError.NoMemory) }
+        ensures outside { (file offset : ℕ) → IsErrOf result (SiteError.NotAFile file offset) → (c : Contents) (h : ℕ) → IsOpenSite D.disk true c h self.old → ⊥ }
+        ensures inner { self.new.inner ≡ self.old.inner }
+        ensures reads { Reads (D.disk self.old.disk) (D.disk self.new.disk) }
+        ensures later { (D.disk self.old.disk).faults ≤ (D.disk self.new.disk).faults }
+        ensures count { (fault : ℕ) → IsErrOf result (SiteError.Failed fault) → fault ≡ (D.disk self.new.disk).faults }
+        ensures cause { (fault : ℕ) → IsErrOf result (SiteError.Failed fault) → Rose (D.disk self.old.disk).faults (D.disk self.new.disk).faults }
+        ensures causes { OnErr result (((fault : ℕ) × IsErrOf result (SiteError.Failed fault)) ⊎ ((fault : ℕ) × IsErrOf result (SiteError.Stopped fault)) ⊎ ((file : ℕ) × (offset : ℕ) × IsErrOf result (SiteError.NotAFile file offset)) ⊎ IsErrOf result SiteError.NoMemory) }
+        ensures stops { (fault : ℕ) → IsErrOf result (SiteError.Failed fault) → HasStopped fault self.new }
         ensures stopped { (fault : ℕ) → HasStopped fault self.old → IsErrOf result (SiteError.Stopped fault) }
+        ensures stays { (fault : ℕ) → HasStopped fault self.old → self.new ≡ self.old }
         ensures only_stopped { (fault : ℕ) → IsErrOf result (SiteError.Stopped fault) → HasStopped fault self.old }
     {
         if let Some(fault) = self.fault {
             return Err(SiteError::Stopped { fault });
         }
-        self.inner.extract(number, out)?;
-        Ok(())
+        let starts = self.inner.starts(out.allocator())?;
+        match self.inner.extract(&mut self.disk, &starts, number, out) {
+            Ok(()) => Ok(()),
+            Err(error) => {
+                self.note(error);
+                Err(error)
+            }
+        }
     }
 
     /// Adds the bytes of a file, as it reads, to `out`. It writes nothing.

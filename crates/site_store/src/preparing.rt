@@ -1,10 +1,11 @@
 //! A site as it stands on a disk, before anything is written.
-ghost use Rattle.std.specs.Prelude.{◌≡◌, ◌⊎◌, ◌≤◌, ◌<◌, ◌++◌, ◌∷◌, [], ℕ, List, true, length, map, IfOk, IfSome, OnOk, OnErr, IsErrOf};
+ghost use Rattle.std.specs.Prelude.{◌≡◌, ◌⊎◌, ◌≤◌, ◌<◌, ◌++◌, ◌∷◌, [], ℕ, List, true, map, IfOk, IfSome, OnOk, OnErr, IsErrOf};
 ghost use Rattle.disk_defs.specs.Disk.{Image, Reads, AtEachMoment, Rose};
 ghost use Rattle.journal_defs.specs.Instance as defs;
 ghost use Rattle.journal_defs.specs.Instance.{generation};
 ghost use Rattle.journal_defs.specs.Numbers.{INSTANCE};
-ghost use Rattle.journal_defs.specs.Stands.{IsInstance, AreRecords};
+ghost use Rattle.journal_defs.specs.Sequence.{Placed};
+ghost use Rattle.journal_defs.specs.Stands.{IsInstance};
 ghost use Rattle.journal_defs.specs.Fit.{IsSoundImage};
 ghost use Rattle.instance_file.specs.Values.{record_value};
 ghost use Rattle.site_defs.specs.Contents.{Contents};
@@ -14,13 +15,15 @@ ghost use Rattle.site_defs.specs.OutsideBlocks.{IsOutsideOpening, HaveOutsideBlo
 ghost use Rattle.site_files.specs.Loading.{next_cut};
 ghost use Rattle.site_store.specs.Finding.{HasLayout, mapping_of};
 ghost use Rattle.site_store.specs.Needing.{IsFirstWithout, NoneIsWithout, HaveFirstWithout};
-ghost use Rattle.site_store.specs.Standing.{HasFound, WasFound, IsFoundAs, IsOpenFor, IsOpenAs, Stood, found_records, found_entries};
+ghost use Rattle.region_opening.specs.Signs.{AllSay};
+ghost use Rattle.entry_index.specs.Found.{entry_count};
+ghost use Rattle.site_store.specs.Standing.{HasFound, WasFound, IsFoundAs, IsOpenFor, IsOpenAs, IfFound, Stood, found_records, found_signs};
 
 use crate::error::SiteError;
 use crate::layout::{Layout, region_specs};
 use crate::needing::first_needing;
 use crate::syncing::{sync_databases, sync_texts};
-use entry_log::EntryLog;
+use entry_index::EntryIndex;
 use global_dir::Directory;
 use gvn_key::{Bytes, NoMemory};
 use instance_file::{InstanceLog, InstanceRecord};
@@ -33,10 +36,10 @@ use std::alloc::Global;
 /// What the files of a site hold: its records, and the entries for which they stand.
 #[derive(Drop)]
 pub struct FoundFiles {
-    /// The records of its instance file and of its journals.
+    /// The records of its instance file, and what those of its journals say.
     pub read: ReadSite,
-    /// All entries, by their numbers from 1 on.
-    pub entries: EntryLog,
+    /// Where the parts of its entries stand.
+    pub entries: EntryIndex,
     /// The text of the broken transactions behind the entries.
     pub broken: Bytes,
 }
@@ -50,8 +53,8 @@ pub struct StandingSite {
     pub layout: Layout,
     /// The last generation that began in each region, or 0.
     pub last_began: Vec<u32>,
-    /// All entries, by their numbers from 1 on.
-    pub entries: EntryLog,
+    /// Where the parts of its entries stand.
+    pub entries: EntryIndex,
     /// Its regions on their blocks.
     pub globals: Regions,
     /// The text of the broken transactions behind the entries.
@@ -100,11 +103,11 @@ pub fn find_files<D: Disk>(alloc: Global, disk: &mut D) -> Result<FoundFiles, Si
     let read = read_site(alloc, disk)?;
     sync_texts(disk, generation_in(read.log.records.as_slice()))?;
     sync_databases(disk, u32::from(read.directory.regions()))?;
-    let remembered = remember_all(alloc, &read.log, &read.journals)?;
+    let remembered = remember_all(alloc, disk, &read)?;
     let Remembered { entries, broken } = remembered;
     Ok(FoundFiles {
         read,
-        entries: EntryLog::of(entries),
+        entries,
         broken,
     })
 }
@@ -149,13 +152,13 @@ pub fn stand<D: Disk>(
     found: FoundFiles,
     target: u64,
 ) -> Result<StandingSite, SiteError>
-    requires target { target ≤ length found.entries }
+    requires target { target ≤ entry_count found.entries }
     requires has { HasFound found }
     ensures found_as { IfOk result (IsFoundAs found) }
     ensures opened { IfOk result (λ k. IsOpenFor (D.disk disk.old) (D.disk disk.new) found target k.globals) }
-    ensures place { (file offset : ℕ) → IsErrOf result (SiteError.NotAFile file offset) → (aim : ℕ → ℕ) → aim (length found.entries) ≡ target
-        → IfSome (D.disk disk.old).content (λ files. AreRecords files (found_records found) → HaveOutsideBlocks aim files file offset) }
-    ensures unsound { (file offset : ℕ) → IsErrOf result (SiteError.NotAFile file offset) → IfSome (D.disk disk.old).content (λ files. IsSoundImage files (found_records found) (found_entries found) → ⊥) }
+    ensures place { (file offset : ℕ) → IsErrOf result (SiteError.NotAFile file offset) → (aim : ℕ → ℕ) → aim (entry_count found.entries) ≡ target
+        → IfSome (D.disk disk.old).content (IfFound found (λ _ _ files. HaveOutsideBlocks aim files file offset)) }
+    ensures unsound { (file offset : ℕ) → IsErrOf result (SiteError.NotAFile file offset) → IfSome (D.disk disk.old).content (IfFound found (λ u seq files. IsSoundImage files u seq → ⊥)) }
     ensures reads { Reads (D.disk disk.old) (D.disk disk.new) }
     ensures later { (D.disk disk.old).faults ≤ (D.disk disk.new).faults }
     ensures count { (fault : ℕ) → IsErrOf result (SiteError.Failed fault) → fault ≡ (D.disk disk.new).faults }
@@ -168,8 +171,9 @@ pub fn stand<D: Disk>(
         disk,
         &found.read.log.records,
         directory,
-        &found.read.journals,
-        found.entries.as_slice(),
+        &found.read.signs,
+        &found.entries,
+        &found.read.log.history,
         target,
     )?;
     Ok(stand_on(alloc, found, globals)?)
@@ -183,8 +187,8 @@ fn stand_anew<D: Disk>(
 ) -> Result<StandingSite, SiteError>
     requires has { HasFound found }
     ensures found_as { IfOk result (IsFoundAs found) }
-    ensures opened { IfOk result (λ k. IsOpenAs true (D.disk disk.old) (D.disk disk.new) found (length found.entries) k.globals) }
-    ensures outside { (file offset : ℕ) → IsErrOf result (SiteError.NotAFile file offset) → IfSome (D.disk disk.old).content (λ _. ⊥) }
+    ensures opened { IfOk result (λ k. IsOpenAs true (D.disk disk.old) (D.disk disk.new) found (entry_count found.entries) k.globals) }
+    ensures outside { (file offset : ℕ) → IsErrOf result (SiteError.NotAFile file offset) → IfSome (D.disk disk.old).content (IfFound found (λ _ _ _. ⊥)) }
     ensures reads { Reads (D.disk disk.old) (D.disk disk.new) }
     ensures later { (D.disk disk.old).faults ≤ (D.disk disk.new).faults }
     ensures count { (fault : ℕ) → IsErrOf result (SiteError.Failed fault) → fault ≡ (D.disk disk.new).faults }
@@ -197,7 +201,8 @@ fn stand_anew<D: Disk>(
         disk,
         &found.read.log.records,
         directory,
-        found.entries.as_slice(),
+        &found.entries,
+        &found.read.log.history,
     )?;
     Ok(stand_on(alloc, found, globals)?)
 }
@@ -205,8 +210,8 @@ fn stand_anew<D: Disk>(
 /// Sees that no region needs forward recovery for so many entries.
 fn check_images(alloc: Global, found: &FoundFiles, target: u64) -> Result<(), SiteError>
     requires has { HasFound found.now }
-    ensures none { OnOk result (NoneIsWithout (found_records found.now) target) }
-    ensures first { (region : ℕ) → IsErrOf result (SiteError.NeedForward region) → (generation : ℕ) × IsFirstWithout (found_records found.now) target region generation }
+    ensures none { OnOk result ((journal : ℕ → List Placed) → AllSay (found_signs found.now) journal → NoneIsWithout (found_records found.now journal) target) }
+    ensures first { (region : ℕ) → IsErrOf result (SiteError.NeedForward region) → (journal : ℕ → List Placed) → AllSay (found_signs found.now) journal → (generation : ℕ) × IsFirstWithout (found_records found.now journal) target region generation }
     ensures causes { OnErr result (((region : ℕ) × IsErrOf result (SiteError.NeedForward region)) ⊎ IsErrOf result SiteError.NoMemory) }
 {
     match first_needing(alloc, found, target)? {

@@ -1,6 +1,6 @@
 //! Beginning a reign.
 ghost use Rattle.std.specs.Prelude.{◌≡◌, ◌⊎◌, ◌≤◌, ◌<◌, ◌^◌, ◌++◌, ◌∷◌, [], ℕ, Bool, true, false, length, Some, IfOk, IfSome, OnOk, OnErr, IsErrOf, IsSome};
-ghost use Rattle.disk_defs.specs.Disk.{Files, Image, AtEachMoment, Rose};
+ghost use Rattle.disk_defs.specs.Disk.{Image, AtEachMoment, Rose};
 ghost use Rattle.gvn_model.specs.Reigns.{stamp_value, reign_value};
 ghost use Rattle.journal_defs.specs.Instance.{Reigned, site_name};
 ghost use Rattle.site_defs.specs.Contents.{Contents, bare};
@@ -8,7 +8,7 @@ ghost use Rattle.site_defs.specs.Limits.{no_reign_left};
 ghost use Rattle.site_defs.specs.Opening.{with_reign, next_stamp};
 ghost use Rattle.site_defs.specs.Stands.{IsSite};
 ghost use Rattle.site_defs.specs.Behind.{IsSiteWith};
-ghost use Rattle.site_store.specs.Site.{Remembers, IsReady, IsOpen, WasOpened, HasReign};
+ghost use Rattle.site_store.specs.Site.{Remembers, IsReady, IsOpen, WasOpened, HasReign, count_of};
 ghost use Rattle.site_store.specs.Reigning.{IsNextReign, HasReignLeft, HasNoReignLeft};
 
 use crate::error::SiteError;
@@ -26,7 +26,7 @@ const MOST_REIGNS: usize = 32_768;
 impl OpenSite {
     /// The reign that begins behind the last entry, under the site's own name and the next cycle.
     pub(crate) fn next_reign(&self, alloc: Global) -> Result<Reign, SiteError>
-        requires { length self.now.entries < 2 ^ 40 }
+        requires { count_of self.now < 2 ^ 40 }
         ensures reign { IfOk result (λ r. IsNextReign self.now (reign_value r)) }
         ensures room { OnOk result (HasReignLeft self.now) }
         ensures limit { IsErrOf result SiteError.ReignLimit → HasNoReignLeft self.now }

@@ -1,17 +1,83 @@
 //! What an open site shows: its entries and its nodes, as text.
-ghost use Rattle.std.specs.Prelude.{◌≡◌, ◌≤◌, ◌-◌, ◌++◌, map, slice_get, None, IfSome, OnOk, OnErr};
+ghost use Rattle.std.specs.Prelude.{◌≡◌, ◌⊎◌, ◌≤◌, ◌<◌, ◌-◌, ◌++◌, ℕ, true, map, slice_get, IfOk, IfSome, OnOk, OnErr, IsErrOf};
 ghost use Rattle.std.specs.Option.{option_copied};
 ghost use Rattle.std.specs.List.{flat_map};
+ghost use Rattle.disk_defs.specs.Disk.{Reads, Rose};
+ghost use Rattle.global_defs.specs.Entry.{Entry, Sequence};
 ghost use Rattle.global_defs.specs.Extract.{entry_text};
 ghost use Rattle.global_defs.specs.Prefix.{IsPrefix};
 ghost use Rattle.gvt_leaf.specs.Listed.{node_value};
+ghost use Rattle.journal_defs.specs.Surviving.{reigns};
+ghost use Rattle.mupip_recover.specs.Stamps.{AreStarts};
+ghost use Rattle.entry_index.specs.Indexes.{Indexes};
+ghost use Rattle.entry_index.specs.Found.{entry_count};
+ghost use Rattle.site_defs.specs.Contents.{Contents};
 ghost use Rattle.site_defs.specs.Texts.{node_line, zwrite};
 ghost use Rattle.site_regions.specs.Joined.{joined};
+ghost use Rattle.site_store.specs.Errors.{index_error};
+ghost use Rattle.site_store.specs.Site.{IsReady, IsOpen, count_of};
+ghost use Rattle.entry_index.specs.Parts.{InFiles};
 
+use crate::error::SiteError;
 use crate::site::OpenSite;
+use entry_index::{EntryIndex, IndexError};
 use gvn_key::{Bytes, Key, NoMemory};
+use gvn_model::Reigns;
 use gvt_leaf::Node;
 use jnl_extract::{extract_entry, write_node};
+use mupip_recover::starts_of;
+use repl_disk::Disk;
+use std::alloc::Global;
+
+/// An error of the index, on a disk with this count of faults.
+fn in_index(error: IndexError, fault: u64) -> SiteError
+    ensures { result ≡ index_error fault error }
+{
+    match error {
+        IndexError::Failed => SiteError::Failed { fault },
+        IndexError::NotAFile { file, offset } => SiteError::NotAFile { file, offset },
+        IndexError::NoMemory => SiteError::NoMemory,
+    }
+}
+
+/// Adds the extract lines of the entry of that number, read from its places, where there is one. `history` has the surviving reigns, and
+/// `starts` what `mupip_recover::starts_of` gives for these.
+///
+/// # Errors
+/// `NotAFile` with the file and the place of a part, only where the files don't have there what the index says, or with file 0 and offset
+/// 0 where no reign covers the entry; `Failed` only where the disk's count rose; `NoMemory`. Nothing is added then.
+pub fn write_entry<D: Disk>(
+    disk: &mut D,
+    entries: &EntryIndex,
+    history: &Reigns,
+    starts: &[u64],
+    number: u64,
+    out: &mut Bytes,
+) -> Result<(), SiteError>
+    requires starts { AreStarts history.now starts.now }
+    requires first { 1 ≤ number }
+    requires regions { entries.now.regions ≤ 8 }
+    ensures entry { OnOk result (IfSome (D.disk disk.old).content (λ files. (seq : Sequence) → Indexes (InFiles files) history.now entries.now seq → IfSome (slice_get seq (number - 1)) (λ e. out.new ≡ out.old ++ entry_text number e))) }
+    // whatever the disk tells, there are lines of an entry
+    ensures some { OnOk result (number ≤ entry_count entries.now → (e : Entry) × (out.new ≡ out.old ++ entry_text number e)) }
+    ensures no_entry { entry_count entries.now < number → out.new ≡ out.old }
+    ensures without { OnErr result (out.new ≡ out.old) }
+    ensures outside { (file offset : ℕ) → IsErrOf result (SiteError.NotAFile file offset) → IfSome (D.disk disk.old).content (λ files. (seq : Sequence) → Indexes (InFiles files) history.now entries.now seq → ⊥) }
+    ensures reads { Reads (D.disk disk.old) (D.disk disk.new) }
+    ensures later { (D.disk disk.old).faults ≤ (D.disk disk.new).faults }
+    ensures count { (fault : ℕ) → IsErrOf result (SiteError.Failed fault) → fault ≡ (D.disk disk.new).faults }
+    ensures cause { (fault : ℕ) → IsErrOf result (SiteError.Failed fault) → Rose (D.disk disk.old).faults (D.disk disk.new).faults }
+    ensures causes { OnErr result (((fault : ℕ) × IsErrOf result (SiteError.Failed fault)) ⊎ ((file : ℕ) × (offset : ℕ) × IsErrOf result (SiteError.NotAFile file offset)) ⊎ IsErrOf result SiteError.NoMemory) }
+{
+    if entries.len() < number {
+        return Ok(());
+    }
+    match entries.read(out.allocator(), disk, history, starts, number) {
+        Ok(Some(entry)) => Ok(extract_entry(&entry, out)?),
+        Ok(None) => Err(SiteError::NotAFile { file: 0, offset: 0 }),
+        Err(error) => Err(in_index(error, disk.faults())),
+    }
+}
 
 /// Adds a line for each of these nodes.
 fn write_nodes(nodes: &[Node], out: &mut Bytes) -> Result<(), NoMemory>
@@ -25,18 +91,42 @@ fn write_nodes(nodes: &[Node], out: &mut Bytes) -> Result<(), NoMemory>
 }
 
 impl OpenSite {
-    /// Adds the extract lines of the entry of that number, where there is one: one line for its update, or a line for each between
-    /// a TSTART and a TCOM line. Without memory nothing is added.
-    pub fn extract(&self, number: u64, out: &mut Bytes) -> Result<(), NoMemory>
-        requires { 1 ≤ number }
-        ensures entry { OnOk result (IfSome (slice_get self.now.entries (number - 1)) (λ e. out.new ≡ out.old ++ entry_text number e)) }
-        ensures no_entry { slice_get self.now.entries (number - 1) ≡ None → out.new ≡ out.old }
-        ensures without { OnErr result (out.new ≡ out.old) }
+    /// For each reign that no later CUT dropped the least start of that and the later ones, by which an entry's reign is found.
+    pub fn starts(&self, alloc: Global) -> Result<Vec<u64>, NoMemory>
+        ensures { IfOk result (λ made. AreStarts (reigns self.now.instance.records) made.items) }
     {
-        match self.entries.get(number) {
-            Some(entry) => extract_entry(entry, out),
-            None => Ok(()),
-        }
+        starts_of(alloc, self.history().as_slice())
+    }
+
+    /// Adds the extract lines of the entry of that number, where there is one: one line for its update, or a line for each between
+    /// a TSTART and a TCOM line. It reads the entry's parts from the journals. `starts` are what [`starts`](OpenSite::starts) gives.
+    ///
+    /// # Errors
+    /// `NotAFile` with the file and the place of a part, only where a read gave other bytes there than stood there; `Failed` only where
+    /// the disk's count rose; `NoMemory`. Nothing is added then.
+    pub fn extract<D: Disk>(
+        &self,
+        disk: &mut D,
+        starts: &[u64],
+        number: u64,
+        out: &mut Bytes,
+    ) -> Result<(), SiteError>
+        requires ready { IsReady (D.disk disk.old) self.now }
+        requires starts { AreStarts (reigns self.now.instance.records) starts.now }
+        requires first { 1 ≤ number }
+        ensures entry { OnOk result ((c : Contents) (h : ℕ) → IsOpen (D.disk disk.old) true c h self.now → IfSome (slice_get c.sequence (number - 1)) (λ e. out.new ≡ out.old ++ entry_text number e)) }
+        // whatever the disk tells, there are lines of an entry
+        ensures some { OnOk result (number ≤ count_of self.now → (e : Entry) × (out.new ≡ out.old ++ entry_text number e)) }
+        ensures no_entry { count_of self.now < number → out.new ≡ out.old }
+        ensures without { OnErr result (out.new ≡ out.old) }
+        ensures outside { (file offset : ℕ) → IsErrOf result (SiteError.NotAFile file offset) → (c : Contents) (h : ℕ) → IsOpen (D.disk disk.old) true c h self.now → ⊥ }
+        ensures reads { Reads (D.disk disk.old) (D.disk disk.new) }
+        ensures later { (D.disk disk.old).faults ≤ (D.disk disk.new).faults }
+        ensures count { (fault : ℕ) → IsErrOf result (SiteError.Failed fault) → fault ≡ (D.disk disk.new).faults }
+        ensures cause { (fault : ℕ) → IsErrOf result (SiteError.Failed fault) → Rose (D.disk disk.old).faults (D.disk disk.new).faults }
+        ensures causes { OnErr result (((fault : ℕ) × IsErrOf result (SiteError.Failed fault)) ⊎ ((file : ℕ) × (offset : ℕ) × IsErrOf result (SiteError.NotAFile file offset)) ⊎ IsErrOf result SiteError.NoMemory) }
+    {
+        write_entry(disk, &self.entries, self.history(), starts, number, out)
     }
 
     /// Adds a ZWRITE line for each node, or for the top one and those below it, in M collation. Without memory some lines may be

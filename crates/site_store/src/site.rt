@@ -1,9 +1,9 @@
 //! A site in memory.
-ghost use Rattle.std.specs.Prelude.{◌≡◌, length};
+ghost use Rattle.std.specs.Prelude.{◌≡◌};
 ghost use Rattle.journal_defs.specs.Surviving.{reigns};
 
 use crate::layout::Layout;
-use entry_log::EntryLog;
+use entry_index::EntryIndex;
 use gvn_model::{Reigns, Stamp};
 use instance_file::Instance;
 use region_journals::RegionJournals;
@@ -20,8 +20,8 @@ pub struct OpenSite {
     pub layout: Layout,
     /// The journals of the newest generation, by region.
     pub journals: RegionJournals,
-    /// All entries, by their numbers from 1 on.
-    pub entries: EntryLog,
+    /// Where the parts of its entries stand.
+    pub entries: EntryIndex,
     /// The site's regions on their blocks: all nodes.
     pub globals: Regions,
     /// How many entries are on the disk for good.
@@ -31,9 +31,11 @@ pub struct OpenSite {
 }
 
 impl OpenSite {
+    ghost use Rattle.site_store.specs.Site.{count_of};
+
     /// How many entries there are.
     pub fn sequence_length(&self) -> u64
-        ensures { result ≡ length self.now.entries }
+        ensures { result ≡ count_of self.now }
     {
         self.entries.len()
     }

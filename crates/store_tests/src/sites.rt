@@ -246,7 +246,9 @@ fn opened_for_a_target(rt: HostRuntime) {
 }
 
 /// The lines of the second entry and those of all nodes.
-fn shown<D: Disk>(rt: &impl Abort, alloc: Global, site: &mut Site<D>) -> Bytes {
+fn shown<D: Disk>(rt: &impl Abort, alloc: Global, site: &mut Site<D>) -> Bytes
+    requires { IsGoing D.disk site.old }
+{
     let mut text = Bytes::new(alloc);
     site.extract(2, &mut text).expect(rt, "it succeeds");
     site.zwrite(None, &mut text).expect(rt, "it succeeds");

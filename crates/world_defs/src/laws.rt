@@ -80,11 +80,16 @@ pub fn typing_holds()
     ensures nothing_lost { no_file true 2 (down_place (cut_with (codes "x") (codes "z") made)) ≡ Some NoFile }
 {}
 
-/// An extract is that of the site's entries where its files are known, and else of as many entries.
+/// An extract is that of the site's entries where its files are known, and else of as many entries. It reads the disk, which may fail.
 pub fn extracting_holds()
     ensures known { (c : Contents) (q : Place) (text told : List ℕ) → Here (extracts.extract None (codes "A") (primary_place true c)) (Typed text) q told → text ≡ extract_from (codes "A") None c.sequence }
     // a site without entries has the header alone
     ensures count { (q : Place) (text told : List ℕ) → Here (extracts.extract None (codes "A") (primary_place false reigned_once)) (Typed text) q told → text ≡ codes "GTMRJEX01\\A\\1\n" }
+    // where a read fails the site has failed, and its entries stay
+    ensures fault { (c : Contents) (k : ℕ) (q : Place) (told : List ℕ) → Here (extracts.extract None (codes "A") (primary_place true c)) (DiskFault k) q told → q.site ≡ Some (record { name = codes "A"; state = Failed k }) }
+    ensures kept { (c : Contents) (k : ℕ) (q : Place) (told : List ℕ) → Here (extracts.extract None (codes "A") (primary_place true c)) (DiskFault k) q told → q.now ≡ c }
+    // and where its files are known nothing is outside the formats
+    ensures no_damage { (c : Contents) (file offset : ℕ) (q : Place) (told : List ℕ) → Here (extracts.extract None (codes "A") (primary_place true c)) (NotAFile file offset) q told → ⊥ }
 {}
 
 /// On a disk that tells its bytes, a site's or not, these decide what files decide.

@@ -146,8 +146,8 @@ module _ (F : Type 0) (K : List Answer → Name → ℕ → Type 0) where
     done = λ q none d. absurd d;
     ran = λ s q d. absurd d;
     typed = λ text q d. quietly F _ (Typed text) p q (λ t. t) (lasts-kept F _ p q d.kept);
-    fault = λ k q d. absurd d;
-    damage = λ file offset q d. absurd d;
+    fault = λ k q d. read-fails F _ k p q d;
+    damage = λ file offset q d. quietly F _ (NotAFile file offset) p q (λ t. t) (lasts-kept F _ p q d.kept);
     refused = λ r q d. quietly F _ (Refused r) p q (λ t. t) (lasts-kept F _ p q d);
     may_refuse = λ r q d. absurd d;
     left = λ q l. cut-old F p q l;

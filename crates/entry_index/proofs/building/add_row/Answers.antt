@@ -1,4 +1,4 @@
-use Rattle.std.proofs.Common.{rules, ◌≡◌, ◌≤◌, ℕ, ◌+◌, map, Option, None, true, false, is_some, IsErrOf, refl, sym, ◌∙◌, ap, subst, List, length, get_or, ◌<◌}
+use Rattle.std.proofs.Common.{rules, ◌≡◌, ◌≤◌, ℕ, ◌+◌, map, Option, None, true, false, is_some, IsErrOf, refl, sym, ◌∙◌, ap, subst, List, length, get_or, arith, ◌<◌}
 use Rattle.disk_defs.proofs.Told.{weaker_told}
 use Rattle.jnl_file.proofs.Newer.{all_told}
 use Rattle.global_defs.specs.Entry.{Stamp}

@@ -1,4 +1,4 @@
-use Rattle.std.proofs.Common.{sym, ◌∙◌}
+use Rattle.std.proofs.Common.{true, false, sym, ◌∙◌}
 use Rattle.entry_index.specs.Table.{sign_at}
 use Rattle.entry_index.proofs.Complete.{not_agreed, in_order, not_counted}
 use Rattle.entry_index.proofs.completing.told_by.Goals as goal

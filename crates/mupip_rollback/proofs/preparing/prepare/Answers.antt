@@ -9,6 +9,7 @@ use Rattle.site_store.specs.Needing.{IsFirstWithout}
 use Rattle.mupip_rollback.proofs.Errors.{handed_on}
 use Rattle.mupip_rollback.proofs.Prepared.{place_at, told_without, held_of, kept_of, site_of, left_of, prepared_of}
 use Rattle.mupip_rollback.proofs.preparing.prepare.Goals as goal
+use Rattle.entry_index.specs.Found.{entry_count}
 
 pub returns-in_err-found-clause-place : goal.returns-in_err-found-clause-place
 returns-in_err-found-clause-place g c =
@@ -22,33 +23,34 @@ returns-clause-prepared g c =
 
 pub returns-clause-held : goal.returns-clause-held
 returns-clause-held g c =
-    let t_is : c.min-target.result ≡ min c.args.to (length c.in_ok-found.found.entries) = (let a = c.min-target.ensures in let b = c.len.ensures in omega (arith, a, b)) in
+    let t_is : c.min-target.result ≡ min c.args.to (entry_count c.in_ok-found.found.entries) = (let a = c.min-target.ensures in let b = c.len.ensures.count in omega (arith, a, b)) in
     held_of (g.D.Disk.disk c.args.disk.now) (g.D.Disk.disk c.find.new.disk) c.in_ok-found.found c.in_ok-found.ensures.has c.in_ok-found.ensures.found c.args.to c.min-target.result t_is c.open_first.result c.open_first.ensures.records c.open_first.ensures.kept c.open_first.ensures.none
 
 pub returns-clause-kept : goal.returns-clause-kept
 returns-clause-kept g c =
-    let t_is : c.min-target.result ≡ min c.args.to (length c.in_ok-found.found.entries) = (let a = c.min-target.ensures in let b = c.len.ensures in omega (arith, a, b)) in
+    let t_is : c.min-target.result ≡ min c.args.to (entry_count c.in_ok-found.found.entries) = (let a = c.min-target.ensures in let b = c.len.ensures.count in omega (arith, a, b)) in
     kept_of (g.D.Disk.disk c.args.disk.now) (g.D.Disk.disk c.find.new.disk) c.in_ok-found.found c.in_ok-found.ensures.has c.in_ok-found.ensures.found c.args.to c.min-target.result t_is c.open_first.result c.open_first.ensures.length c.open_first.ensures.kept
 
 pub returns-clause-site : goal.returns-clause-site
 returns-clause-site g c =
-    let t_is : c.min-target.result ≡ min c.args.to (length c.in_ok-found.found.entries) = (let a = c.min-target.ensures in let b = c.len.ensures in omega (arith, a, b)) in
+    let t_is : c.min-target.result ≡ min c.args.to (entry_count c.in_ok-found.found.entries) = (let a = c.min-target.ensures in let b = c.len.ensures.count in omega (arith, a, b)) in
     site_of (g.D.Disk.disk c.args.disk.now) (g.D.Disk.disk c.find.new.disk) c.in_ok-found.found c.in_ok-found.ensures.has c.in_ok-found.ensures.found c.args.to c.min-target.result t_is (g.D.Disk.disk c.open_first.new.disk) c.open_first.result
     (g.met.D.Disk.lawful c.find.new.disk) (g.met.D.Disk.lawful c.open_first.new.disk) c.find.ensures.any_moment c.open_first.ensures.reads c.open_first.ensures.length
 
 pub returns-clause-left : goal.returns-clause-left
 returns-clause-left g c =
-    let t_is : c.min-target.result ≡ min c.args.to (length c.in_ok-found.found.entries) = (let a = c.min-target.ensures in let b = c.len.ensures in omega (arith, a, b)) in
+    let t_is : c.min-target.result ≡ min c.args.to (entry_count c.in_ok-found.found.entries) = (let a = c.min-target.ensures in let b = c.len.ensures.count in omega (arith, a, b)) in
     left_of (g.D.Disk.disk c.args.disk.now) (g.D.Disk.disk c.find.new.disk) c.in_ok-found.found c.in_ok-found.ensures.has c.in_ok-found.ensures.found c.args.to c.min-target.result t_is c.open_first.result c.open_first.ensures.broken
 
 pub returns-clause-without : goal.returns-clause-without
 returns-clause-without g c = λ region first is.
-    let t_is : c.min-target.result ≡ min c.args.to (length c.in_ok-found.found.entries) = (let a = c.min-target.ensures in let b = c.len.ensures in omega (arith, a, b)) in
+    let t_is : c.min-target.result ≡ min c.args.to (entry_count c.in_ok-found.found.entries) = (let a = c.min-target.ensures in let b = c.len.ensures.count in omega (arith, a, b)) in
     weaker_told (g.D.Disk.disk c.args.disk.now).content _ _
-    (told_without (g.D.Disk.disk c.args.disk.now) (g.D.Disk.disk c.find.new.disk) c.in_ok-found.found c.in_ok-found.ensures.has c.in_ok-found.ensures.found c.args.to c.min-target.result t_is (λ u t. (generation u.instance < 65534) × IsFirstWithout u t region first) (c.in_ok-found.ensures.has.low, c.open_first.ensures.first region first is))
+    (told_without (g.D.Disk.disk c.args.disk.now) (g.D.Disk.disk c.find.new.disk) c.in_ok-found.found c.in_ok-found.ensures.has c.in_ok-found.ensures.found c.args.to c.min-target.result t_is (λ u t. (generation u.instance < 65534) × IsFirstWithout u t region first)
+    (λ journal say. (c.in_ok-found.ensures.has.low, c.open_first.ensures.first region first is journal say)))
     (λ files k. (k.0, k.1, k.2, k.3, k.4.0, k.4.1))
 
 pub returns-clause-place : goal.returns-clause-place
 returns-clause-place g c = λ file offset is.
-    let t_is : c.min-target.result ≡ min c.args.to (length c.in_ok-found.found.entries) = (let a = c.min-target.ensures in let b = c.len.ensures in omega (arith, a, b)) in
+    let t_is : c.min-target.result ≡ min c.args.to (entry_count c.in_ok-found.found.entries) = (let a = c.min-target.ensures in let b = c.len.ensures.count in omega (arith, a, b)) in
     place_at (g.D.Disk.disk c.args.disk.now) (g.D.Disk.disk c.find.new.disk) c.in_ok-found.found c.in_ok-found.ensures.has c.in_ok-found.ensures.found c.args.to c.min-target.result t_is file offset c.find.ensures.content (c.open_first.ensures.place file offset is c.args.to t_is)

@@ -1,4 +1,4 @@
-use Rattle.std.proofs.Common.{◌≡◌, ◌<◌, List, length, true, false, ◌∙◌, ap}
+use Rattle.std.proofs.Common.{◌≡◌, ◌<◌, List, length, true, false, ◌∙◌}
 use Rattle.std.proofs.lemmas.Result.{IfOk-weaker}
 use Rattle.disk_defs.specs.Disk.{Files}
 use Rattle.disk_defs.proofs.Told.{both_weak}
@@ -10,7 +10,7 @@ use Rattle.journal_defs.specs.Stands.{IsInstance, AreRecords}
 use Rattle.site_defs.specs.Contents.{Contents}
 use Rattle.site_defs.specs.Epochs.{marked}
 use Rattle.site_store.specs.Needing.{NoneIsWithout}
-use Rattle.site_store.specs.Site.{IsOpen, WasOpenedFrom}
+use Rattle.site_store.specs.Site.{IsOpen, WasOpenedFrom, count_of}
 use Rattle.mupip_rollback.specs.Rolling.{StandsFor}
 use Rattle.mupip_rollback.proofs.Recovered as recovered
 use Rattle.mupip_rollback.proofs.recovering.recover_backward.Goals as goal
@@ -37,10 +37,10 @@ returns-in-Ok-clause-held g c =
     let s = c.in-Ok.site in
     let Held = λ (files : Files). (x : Records) × (seq : Sequence) × AreRecords files x × IsSequence x seq × WasOpenedFrom x seq s × NoneIsWithout x (length seq) in
     let Room = λ (files : Files). (rs : List InstanceRecord) → IsInstance (files INSTANCE) rs → generation rs < 65534 in
-    IfOk-weaker c.close.result (λ n. n ≡ length s.entries) _ (λ n count.
+    IfOk-weaker c.close.result (λ n. n ≡ count_of s) _ (λ n count.
     both_weak u.content Held Room (λ files. (x : Records) × (seq : Sequence) × AreRecords files x × IsSequence x seq × (n ≡ length seq) × (generation x.instance < 65534) × NoneIsWithout x (length seq)) c.in-Ok.ensures.held c.in-Ok.ensures.drawn
     (λ files h room.
-    let size : length s.entries ≡ length h.1 = ap length h.4.entries in
+    let size : count_of s ≡ length h.1 = h.4.count in
     (h.0, h.1, h.2, h.3, count ∙ size, room h.0.instance h.2.instance, h.5))) c.close.ensures.length
 
 pub returns-in-Ok-clause-any_moment : goal.returns-in-Ok-clause-any_moment

@@ -1,12 +1,23 @@
-use Rattle.std.proofs.Common.{true, refl, subst}
+use Rattle.std.proofs.Common.{◌≤◌, true, refl, subst, arith}
 use Rattle.mupip_rollback.specs.Preparing.{cut_records}
 use Rattle.disk_defs.specs.Frames.{OthersStay}
 use Rattle.mupip_rollback.specs.Cutting.{AreSetAside}
+use Rattle.site_store.proofs.Standing.{still}
+use Rattle.mupip_rollback.proofs.Errors.{failed_was}
 use Rattle.mupip_rollback.proofs.Rolls as rolls
 use Rattle.mupip_rollback.proofs.rolling.roll.Goals as goal
 
+pub set_aside-requires-clause-read : goal.set_aside-requires-clause-read
+set_aside-requires-clause-read g c = rolls.read_at (g.D.Disk.disk c.args.disk.now) c.args.prepared c.requires.prepared
+
 pub begin_kept-requires-clause-form : goal.begin_kept-requires-clause-form
 begin_kept-requires-clause-form g c = rolls.form_at (g.D.Disk.disk c.args.disk.now) c.args.prepared c.requires.prepared c.in_ok-instance.instance.records c.in_ok-instance.ensures.records
+
+pub begin_kept-requires-clause-whole : goal.begin_kept-requires-clause-whole
+begin_kept-requires-clause-whole g c = rolls.whole_at (g.D.Disk.disk c.args.disk.now) c.args.prepared c.requires.prepared
+
+pub begin_kept-requires-clause-each_place : goal.begin_kept-requires-clause-each_place
+begin_kept-requires-clause-each_place g c = rolls.places_at (g.D.Disk.disk c.args.disk.now) c.args.prepared c.requires.prepared c.in_ok-instance.instance.records c.in_ok-instance.ensures.records
 
 pub begin_kept-requires-clause-unbegun : goal.begin_kept-requires-clause-unbegun
 begin_kept-requires-clause-unbegun g c =
@@ -103,3 +114,18 @@ returns-clause-any_moment g c =
     let lawful_x = g.met.D.Disk.lawful c.set_aside.new.disk in
     let open_now = rolls.opens_now v p P is same x stays lawful w s lawful_x done c.in_ok-site.ensures.open in
     rolls.back v p P is same x stays lawful z (rolls.closing v p P is same x stays lawful w s lawful_x z open_now (rolls.drawn_moments v p P is same x stays lawful w aside done c.begin_kept.ensures.any_moment) c.epoch.ensures.left)
+
+pub returns-clause-still_told : goal.returns-clause-still_told
+returns-clause-still_told g c = λ told.
+    c.epoch.ensures.still_told (c.begin_kept.ensures.still_told
+    (still (g.D.Disk.disk c.args.disk.now) (g.D.Disk.disk c.set_aside.new.disk) (AreSetAside c.args.prepared.log.records) c.set_aside.ensures.frame told))
+
+pub returns-clause-count : goal.returns-clause-count
+returns-clause-count g c = λ fault is. c.in-Err.ensures.count fault (failed_was c.in-Err.error c.in_site.result fault c.in_site.ensures is)
+
+pub returns-clause-cause : goal.returns-clause-cause
+returns-clause-cause g c = λ fault is.
+    let rose = c.in-Err.ensures.cause fault (failed_was c.in-Err.error c.in_site.result fault c.in_site.ensures is) in
+    let first : (g.D.Disk.disk c.args.disk.now).faults ≤ (g.D.Disk.disk c.set_aside.new.disk).faults = c.set_aside.ensures.later in
+    let second : (g.D.Disk.disk c.set_aside.new.disk).faults ≤ (g.D.Disk.disk c.begin_kept.new.disk).faults = c.begin_kept.ensures.later in
+    omega (arith, rose, first, second)

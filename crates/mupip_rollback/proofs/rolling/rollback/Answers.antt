@@ -1,11 +1,12 @@
-use Rattle.std.proofs.Common.{◌≡◌, ◌+◌, ◌<◌, [], length, min, sym, ◌∙◌, ap, subst, arith}
+use Rattle.std.proofs.Common.{◌≡◌, ◌+◌, ◌<◌, [], length, min, replicate, sym, ◌∙◌, ap, subst, arith}
+use Rattle.std.proofs.lemmas.List.{length-replicate}
 use Rattle.std.proofs.lemmas.Result.{err_from_is_err_and}
 use Rattle.disk_defs.proofs.Told.{weaker_told}
-use Rattle.global_defs.specs.Entry.{Sequence}
+use Rattle.entry_index.specs.Found.{entry_count}
+use Rattle.global_defs.specs.Entry.{Entry, Sequence}
 use Rattle.journal_defs.specs.Instance.{generation}
 use Rattle.journal_defs.specs.Sequence.{Records, IsSequence}
 use Rattle.journal_defs.specs.Stands.{AreRecords}
-use Rattle.site_store.specs.Standing.{found_entries}
 use Rattle.site_store.specs.Needing.{NoneIsWithout}
 use Rattle.mupip_rollback.specs.declared.error.RollError.TheVariants as error
 use Rattle.mupip_rollback.proofs.Errors.{handed_on}
@@ -20,16 +21,18 @@ returns-in_err-prepared-clause-without g c =
 pub returns-in_err-prepared-clause-any_moment : goal.returns-in_err-prepared-clause-any_moment
 returns-in_err-prepared-clause-any_moment g c = whole.quiet (g.D.Disk.disk c.args.disk.now) (g.D.Disk.disk c.prepare.new.disk) c.args.to c.prepare.ensures.any_moment
 
+-- whatever the disk tells, there are contents with so many entries
 pub returns-clause-read : goal.returns-clause-read
 returns-clause-read g c =
     let p = c.in_ok-prepared.prepared in
     let P = c.in_ok-prepared.ensures.prepared in
-    let all = P.counted in
     let kept = c.in_ok-prepared.ensures.kept in
-    let size = c.len.ensures in
+    let size = c.len.ensures.count in
+    let some : Entry = record { stamp = record { root = []; cycle = 0 }; transaction = record { origin = record { updater = 0; serial = 0 }; updates = [] } } in
+    let many : length (replicate p.length some) ≡ p.length = length-replicate p.length some in
     let newest : c.generation_in.result ≡ generation P.found.read.log.records = c.generation_in.ensures ∙ ap generation c.as_slice.ensures ∙ ap (λ l. generation l.records) P.log in (
-      record { instance = P.found.read.log.records; starts = λ r. []; epochs = λ r. []; texts = []; losts = []; sequence = found_entries P.found },
-      omega (arith, all, kept, size),
+      record { instance = P.found.read.log.records; starts = λ r. []; epochs = λ r. []; texts = []; losts = []; sequence = replicate p.length some },
+      omega (arith, many, kept, size),
       omega (arith, newest),
     )
 
@@ -38,10 +41,10 @@ returns-clause-held g c =
     let u = g.D.Disk.disk c.args.disk.now in
     let p = c.in_ok-prepared.prepared in
     let P = c.in_ok-prepared.ensures.prepared in
-    let size = c.len.ensures in
+    let size = c.len.ensures.count in
     let low : generation p.log.records < 65534 = subst (λ l. generation l.records < 65534) (sym P.log) P.has.low in
     let newest : c.generation_in.result ≡ generation p.log.records = c.generation_in.ensures ∙ ap generation c.as_slice.ensures in
-    weaker_told u.content (λ files. (x : Records) × (es : Sequence) × AreRecords files x × IsSequence x es × (x.instance ≡ p.log.records) × (length p.kept.entries ≡ min c.args.to (length es)) × NoneIsWithout x (min c.args.to (length es)))
+    weaker_told u.content (λ files. (x : Records) × (es : Sequence) × AreRecords files x × IsSequence x es × (x.instance ≡ p.log.records) × (entry_count p.kept.entries ≡ min c.args.to (length es)) × NoneIsWithout x (min c.args.to (length es)))
     (λ files. (x : Records) × (es : Sequence) × AreRecords files x × IsSequence x es × (c.len.result ≡ min c.args.to (length es)) × (c.generation_in.result + 1 ≡ generation x.instance + 1) × (generation x.instance < 65534) × NoneIsWithout x (min c.args.to (length es)))
     c.in_ok-prepared.ensures.held (λ files h.
     let same : generation h.0.instance ≡ generation p.log.records = ap generation h.4 in
@@ -55,7 +58,7 @@ returns-in_err-roll-clause-any_moment g c =
     let z = g.D.Disk.disk c.roll.new.disk in
     let p = c.in_ok-prepared.prepared in
     let ens = c.in_ok-prepared.ensures in
-    whole.moments u v c.args.to c.prepare.ensures.any_moment z (length p.kept.entries) p.length ens.kept p.broken (g.met.D.Disk.lawful c.args.disk.now) (g.met.D.Disk.lawful c.roll.new.disk) c.prepare.ensures.content ens.site ens.left c.roll.ensures.any_moment
+    whole.moments u v c.args.to c.prepare.ensures.any_moment z (entry_count p.kept.entries) p.length ens.kept p.broken (g.met.D.Disk.lawful c.args.disk.now) (g.met.D.Disk.lawful c.roll.new.disk) c.prepare.ensures.content ens.site ens.left c.roll.ensures.any_moment
 
 pub returns-in_err-roll-clause-left : goal.returns-in_err-roll-clause-left
 returns-in_err-roll-clause-left g c =
@@ -64,7 +67,7 @@ returns-in_err-roll-clause-left g c =
     let z = g.D.Disk.disk c.roll.new.disk in
     let p = c.in_ok-prepared.prepared in
     let ens = c.in_ok-prepared.ensures in
-    whole.moments_with u v c.args.to c.prepare.ensures.any_moment z (length p.kept.entries) p.length ens.kept p.broken (g.met.D.Disk.lawful c.args.disk.now) (g.met.D.Disk.lawful c.roll.new.disk) c.prepare.ensures.content ens.site ens.left c.roll.ensures.any_moment
+    whole.moments_with u v c.args.to c.prepare.ensures.any_moment z (entry_count p.kept.entries) p.length ens.kept p.broken (g.met.D.Disk.lawful c.args.disk.now) (g.met.D.Disk.lawful c.roll.new.disk) c.prepare.ensures.content ens.site ens.left c.roll.ensures.any_moment
 
 pub returns-in_err-roll-clause-stands : goal.returns-in_err-roll-clause-stands
 returns-in_err-roll-clause-stands g c =
@@ -73,7 +76,7 @@ returns-in_err-roll-clause-stands g c =
     let z = g.D.Disk.disk c.roll.new.disk in
     let p = c.in_ok-prepared.prepared in
     let ens = c.in_ok-prepared.ensures in
-    whole.stands u v c.args.to c.prepare.ensures.any_moment z (length p.kept.entries) p.length ens.kept p.broken (g.met.D.Disk.lawful c.args.disk.now) (g.met.D.Disk.lawful c.roll.new.disk) c.prepare.ensures.content ens.site ens.left c.roll.ensures.any_moment
+    whole.stands u v c.args.to c.prepare.ensures.any_moment z (entry_count p.kept.entries) p.length ens.kept p.broken (g.met.D.Disk.lawful c.args.disk.now) (g.met.D.Disk.lawful c.roll.new.disk) c.prepare.ensures.content ens.site ens.left c.roll.ensures.any_moment
 
 pub returns-clause-any_moment : goal.returns-clause-any_moment
 returns-clause-any_moment g c =
@@ -82,7 +85,7 @@ returns-clause-any_moment g c =
     let z = g.D.Disk.disk c.roll.new.disk in
     let p = c.in_ok-prepared.prepared in
     let ens = c.in_ok-prepared.ensures in
-    whole.moments u v c.args.to c.prepare.ensures.any_moment z (length p.kept.entries) p.length ens.kept p.broken (g.met.D.Disk.lawful c.args.disk.now) (g.met.D.Disk.lawful c.roll.new.disk) c.prepare.ensures.content ens.site ens.left c.roll.ensures.any_moment
+    whole.moments u v c.args.to c.prepare.ensures.any_moment z (entry_count p.kept.entries) p.length ens.kept p.broken (g.met.D.Disk.lawful c.args.disk.now) (g.met.D.Disk.lawful c.roll.new.disk) c.prepare.ensures.content ens.site ens.left c.roll.ensures.any_moment
 
 pub returns-clause-left : goal.returns-clause-left
 returns-clause-left g c =
@@ -91,7 +94,7 @@ returns-clause-left g c =
     let z = g.D.Disk.disk c.roll.new.disk in
     let p = c.in_ok-prepared.prepared in
     let ens = c.in_ok-prepared.ensures in
-    whole.moments_with u v c.args.to c.prepare.ensures.any_moment z (length p.kept.entries) p.length ens.kept p.broken (g.met.D.Disk.lawful c.args.disk.now) (g.met.D.Disk.lawful c.roll.new.disk) c.prepare.ensures.content ens.site ens.left c.roll.ensures.any_moment
+    whole.moments_with u v c.args.to c.prepare.ensures.any_moment z (entry_count p.kept.entries) p.length ens.kept p.broken (g.met.D.Disk.lawful c.args.disk.now) (g.met.D.Disk.lawful c.roll.new.disk) c.prepare.ensures.content ens.site ens.left c.roll.ensures.any_moment
 
 pub returns-clause-stands : goal.returns-clause-stands
 returns-clause-stands g c =
@@ -100,7 +103,7 @@ returns-clause-stands g c =
     let z = g.D.Disk.disk c.roll.new.disk in
     let p = c.in_ok-prepared.prepared in
     let ens = c.in_ok-prepared.ensures in
-    whole.stands u v c.args.to c.prepare.ensures.any_moment z (length p.kept.entries) p.length ens.kept p.broken (g.met.D.Disk.lawful c.args.disk.now) (g.met.D.Disk.lawful c.roll.new.disk) c.prepare.ensures.content ens.site ens.left c.roll.ensures.any_moment
+    whole.stands u v c.args.to c.prepare.ensures.any_moment z (entry_count p.kept.entries) p.length ens.kept p.broken (g.met.D.Disk.lawful c.args.disk.now) (g.met.D.Disk.lawful c.roll.new.disk) c.prepare.ensures.content ens.site ens.left c.roll.ensures.any_moment
 
 pub returns-clause-told : goal.returns-clause-told
 returns-clause-told g c =
@@ -109,4 +112,4 @@ returns-clause-told g c =
     let z = g.D.Disk.disk c.roll.new.disk in
     let p = c.in_ok-prepared.prepared in
     let ens = c.in_ok-prepared.ensures in
-    whole.told u v c.args.to c.prepare.ensures.any_moment z (length p.kept.entries) p.length ens.kept p.broken (g.met.D.Disk.lawful c.args.disk.now) (g.met.D.Disk.lawful c.roll.new.disk) c.prepare.ensures.content ens.site ens.left c.in_ok-roll.ensures.done
+    whole.told u v c.args.to c.prepare.ensures.any_moment z (entry_count p.kept.entries) p.length ens.kept p.broken (g.met.D.Disk.lawful c.args.disk.now) (g.met.D.Disk.lawful c.roll.new.disk) c.prepare.ensures.content ens.site ens.left c.in_ok-roll.ensures.done

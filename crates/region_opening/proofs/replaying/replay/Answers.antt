@@ -1,36 +1,39 @@
-use Rattle.std.proofs.Common.{◌∙◌, List, refl, sym, ap, subst, fold, map, arith}
-use Rattle.std.proofs.lemmas.List.{take_all}
-use Rattle.std.specs.List.{AllByRecursion}
-use Rattle.global_defs.specs.Entry.{Update, apply}
-use Rattle.global_defs.specs.Fields.{IsUpdate, IsTransaction}
+use Rattle.std.proofs.Common.{◌≡◌, ℕ, ◌+◌, ◌-◌, length, slice_get, Some, IfSome, subst, arith}
+use Rattle.disk_defs.proofs.Told.{told_at}
+use Rattle.disk_defs.proofs.Frames.{reads_more}
+use Rattle.global_defs.specs.Entry.{Sequence}
 use Rattle.gvn_model.specs.Entries.{entry_value}
-use Rattle.block_laws.specs.Nodes.{updates_in, updates_of}
-use Rattle.region_opening.proofs.Replays.{unchanged, changed_then, entry_more, holds_at}
+use Rattle.entry_index.specs.Indexes.{Indexes}
+use Rattle.entry_index.specs.Parts.{InFiles}
+use Rattle.region_opening.specs.Replaying.{AreBecome, IsGivenUpTo}
+use Rattle.region_opening.proofs.Becoming.{all_more}
 use Rattle.region_opening.proofs.replaying.replay.Goals as goal
 
-pub loop-entry-init : goal.loop-entry-init
-loop-entry-init c = record { made = refl; changed = unchanged c.args.region.now }
-
-pub replay_updates-requires : goal.replay_updates-requires
-replay_updates-requires c =
-    let here = holds_at (λ e. IsTransaction e.transaction) entry_value c.args.entries.now c.loop-entry.entry-index c.entry-item.result c.loop-entry-test.true c.entry-item.is c.requires in
-    subst (AllByRecursion IsUpdate) (sym c.as_slice.ensures) here.each
-
-pub loop-entry-preserved : goal.loop-entry-preserved
-loop-entry-preserved c =
-    let l = c.loop-entry in
+pub loop-done-preserved : goal.loop-done-preserved
+loop-done-preserved g c =
+    let view = g.D.Disk.disk in
+    let a = c.args in
+    let l = c.loop-done in
+    let inv = l.invariant in
+    let u = view a.disk.now in
+    let v = view l.disk in
+    let e = c.in_ok-entry.entry in
+    let same : l.done + 1 - 1 ≡ l.done = omega arith in
+    let read : IfSome u.content (λ files. (seq : Sequence) → Indexes (InFiles files) a.history.now a.entries.now seq → slice_get seq l.done ≡ Some (entry_value e)) =
+    told_at u.content v.content (λ files. (seq : Sequence) → Indexes (InFiles files) a.history.now a.entries.now seq → slice_get seq l.done ≡ Some (entry_value e)) inv.reads.content
+    (subst (λ (n : ℕ). IfSome v.content (λ files. (seq : Sequence) → Indexes (InFiles files) a.history.now a.entries.now seq → slice_get seq n ≡ Some (entry_value e))) same c.in_ok-entry.ensures.entry) in
     record {
-      made = entry_more entry_value c.args.directory.now.patterns c.args.number c.args.region.now.globals l.region.globals c.replay_updates.new.region.globals c.args.entries.now l.entry-index c.entry-item.result
-          c.loop-entry-test.true c.entry-item.is l.invariant.made
-          (c.in_ok-replay_updates.ensures.made ∙ ap (λ (us : List Update). fold apply l.region.globals (updates_in c.args.directory.now.patterns c.args.number us)) c.as_slice.ensures);
-      changed = changed_then c.args.region.now l.region c.replay_updates.new.region l.invariant.changed c.replay_updates.ensures.changed;
+      become = all_more u.content a.history.now a.entries.now a.directory.now.patterns a.from.now l.done a.regions.now.items l.regions.items c.make_entry.new.regions.items (entry_value e) _ c.as_slice-in-loop-done.ensures read inv.become
+          c.in_ok-make_entry.ensures.made;
+      within = omega (arith, c.loop-done-test.true);
+      reads = reads_more u v (view c.read_entry.new.disk) (g.met.D.Disk.lawful a.disk.now) inv.reads c.read_entry.ensures.reads;
+      faults = omega (arith, inv.faults, c.read_entry.ensures.later);
     }
 
 pub returns-clause-made : goal.returns-clause-made
-returns-clause-made c =
-    let l = c.loop-entry in
-    let end = c.loop-entry-test.false in
-    l.invariant.made ∙ ap (λ es. fold apply c.args.region.now.globals (updates_in c.args.directory.now.patterns c.args.number (updates_of (map entry_value es)))) (take_all l.entry-index c.args.entries.now (omega (arith, end)))
-
-pub returns-in_err-replay_updates-clause-changed : goal.returns-in_err-replay_updates-clause-changed
-returns-in_err-replay_updates-clause-changed c = changed_then c.args.region.now c.loop-entry.region c.replay_updates.new.region c.loop-entry.invariant.changed c.replay_updates.ensures.changed
+returns-clause-made g c =
+    let a = c.args in
+    let l = c.loop-done in
+    let o = (g.D.Disk.disk a.disk.now).content in
+    let all : l.done ≡ a.target = omega (arith, c.loop-done-test.false, l.invariant.within) in
+    subst (λ (n : ℕ). AreBecome (IsGivenUpTo o a.history.now a.entries.now a.directory.now.patterns a.from.now n) (length a.regions.now.items) a.regions.now.items l.regions.items) all l.invariant.become

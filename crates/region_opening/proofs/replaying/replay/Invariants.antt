@@ -1,12 +1,16 @@
-use Rattle.std.proofs.Common.{◌≡◌, fold, map, take}
-use Rattle.global_defs.specs.Entry.{apply}
-use Rattle.gvn_model.specs.Entries.{entry_value}
-use Rattle.block_laws.specs.Nodes.{updates_in, updates_of}
-use Rattle.region_store.specs.Region.{IsChanged}
+use Rattle.std.proofs.Common.{◌≤◌, length}
+use Rattle.disk_defs.specs.Disk.{Reads}
+use Rattle.region_opening.specs.Replaying.{AreBecome, IsGivenUpTo}
 use Rattle.region_opening.proofs.replaying.replay.Given as goal
 
-abbrev pub invariant-loop-entry : goal.invariant-loop-entry
-invariant-loop-entry l = record {
-  made : l.region.globals ≡ fold apply l.fn.region.globals (updates_in l.directory.patterns l.number (updates_of (map entry_value (take l.entry-index l.entries))));
-  changed : IsChanged l.fn.region l.region;
-}
+abbrev pub invariant-loop-done : goal.invariant-loop-done
+invariant-loop-done g l =
+    let view = g.D.Disk.disk in
+    let u = view l.fn.disk in
+    let v = view l.disk in
+    record {
+      become : AreBecome (IsGivenUpTo u.content l.fn.history l.fn.entries l.directory.patterns l.from l.done) (length l.fn.regions.items) l.fn.regions.items l.regions.items;
+      within : l.done ≤ l.fn.target;
+      reads : Reads u v;
+      faults : u.faults ≤ v.faults;
+    }

@@ -5,12 +5,12 @@ use Rattle.disk_defs.specs.Disk.{Files, Image}
 use Rattle.disk_defs.proofs.Moments.{nothing_new}
 use Rattle.disk_defs.proofs.Told.{told_at}
 use Rattle.global_dir.specs.Directory.{Mapping}
-use Rattle.jnl_record.specs.declared.placed.PlacedRecord.{PlacedRecord}
+use Rattle.jnl_index.specs.declared.placed.PlacedSign.{PlacedSign}
 use Rattle.journal_defs.specs.Instance.{InstanceRecord, generation, regions}
 use Rattle.journal_defs.specs.Sequence.{Placed}
-use Rattle.mupip_recover.specs.Site.{journal_of}
 use Rattle.site_files.specs.declared.error.FilesError.TheVariants.{NotAFile}
 use Rattle.site_files.specs.Loading.{IsDirectory, last_of}
+use Rattle.site_files.specs.Reading.{HaveSigns}
 use Rattle.site_defs.specs.Outside.{HaveJournals, AreOutside}
 use Rattle.site_files.proofs.Places.{instance_place, directory_place, journals_place}
 use Rattle.site_files.proofs.Errors.{handed_on, causes_on}
@@ -117,9 +117,16 @@ returns-clause-held g c =
     let newest_read = c.in_ok-plan.plan.newest in
     let got = c.in_ok-found.ensures in
     let last = last_of c.in_ok-found.found.last_began.items in
-    let js = map (λ (j : Vec PlacedRecord Global). j.items) c.in_ok-found.found.journals.items in
+    let signs = map (λ (j : Vec PlacedSign Global). j.items) c.in_ok-found.found.signs.items in
     let directory = subst (λ (k : List InstanceRecord). IsDirectory k (Some c.in_ok-plan.plan.directory)) c.as_slice.ensures c.in_ok-plan.ensures.directory in
     let many : n ≡ length (regions rs) = c.in_ok-plan.ensures.regions ∙ ap (λ (d : Mapping). d.regions) directory.2 in
     let newest : newest_read ≡ generation rs = c.in_ok-plan.ensures.newest ∙ ap generation c.as_slice.ensures in
-    are_held u.content rs last js n newest_read many newest (length-map c.in_ok-found.found.journals.items (λ (j : Vec PlacedRecord Global). j.items) ∙ got.many)
-    c.in_ok-log.ensures.reads (told_at u.content v.content (HaveJournals n newest_read last (journal_of js)) c.in_ok-log.ensures.content got.read)
+    are_held u.content rs last signs n newest_read many newest (length-map c.in_ok-found.found.signs.items (λ (j : Vec PlacedSign Global). j.items) ∙ got.many)
+    c.in_ok-log.ensures.reads (told_at u.content v.content (HaveSigns n newest_read last signs) c.in_ok-log.ensures.content got.read)
+
+pub returns-clause-signs : goal.returns-clause-signs
+returns-clause-signs g c =
+    let rs = c.in_ok-log.log.records in
+    let directory = subst (λ (k : List InstanceRecord). IsDirectory k (Some c.in_ok-plan.plan.directory)) c.as_slice.ensures c.in_ok-plan.ensures.directory in
+    let many : c.in_ok-plan.plan.regions ≡ length (regions rs) = c.in_ok-plan.ensures.regions ∙ ap (λ (d : Mapping). d.regions) directory.2 in
+    c.in_ok-found.ensures.many ∙ many

@@ -5,15 +5,14 @@ use Rattle.disk_defs.proofs.Moments.{nothing_new}
 use Rattle.disk_defs.proofs.Told.{told_at}
 use Rattle.std.specs.List.{AllByRecursion}
 use Rattle.std.proofs.lemmas.List.{length-map}
-use Rattle.jnl_record.specs.declared.placed.PlacedRecord.{PlacedRecord}
+use Rattle.jnl_index.specs.declared.placed.PlacedSign.{PlacedSign}
 use Rattle.global_dir.specs.Directory.{Mapping}
 use Rattle.journal_defs.specs.Instance.{InstanceRecord, generation, regions}
 use Rattle.journal_defs.specs.Directory.{Pattern, patterns}
 use Rattle.journal_defs.specs.Sequence.{Placed}
-use Rattle.mupip_recover.specs.Site.{journal_of}
 use Rattle.site_files.specs.declared.error.FilesError.TheVariants.{NotAFile, GenLimit}
 use Rattle.site_files.specs.Loading.{IsDirectory, last_of}
-use Rattle.site_files.specs.Reading.{AreAllDurable, AreUnbegunDurable}
+use Rattle.site_files.specs.Reading.{HaveSigns, AreAllDurable, AreUnbegunDurable}
 use Rattle.site_defs.specs.Outside.{HaveJournals, AreUnbegun, AreOutside, HaveBegun}
 use Rattle.site_files.proofs.Places.{instance_place, site_place, directory_place, journals_place, begun_place}
 use Rattle.site_files.proofs.Errors.{handed_on, causes_on}
@@ -191,17 +190,17 @@ returns-clause-read g c =
     let g1 = c.in_ok-plan.plan.newest in
     let got = c.in_ok-read.ensures in
     let last = last_of c.in_ok-read.read.last_began.items in
-    let js = map (λ (j : Vec PlacedRecord Global). j.items) c.in_ok-read.read.journals.items in
+    let signs = map (λ (j : Vec PlacedSign Global). j.items) c.in_ok-read.read.signs.items in
     let directory = subst (λ (k : List InstanceRecord). IsDirectory k (Some c.in_ok-plan.plan.directory)) c.as_slice.ensures c.in_ok-plan.ensures.directory in
     let many : n ≡ length (regions rs) = c.in_ok-plan.ensures.regions ∙ ap (λ (d : Mapping). d.regions) directory.2 in
     let newest : g1 ≡ generation rs = c.in_ok-plan.ensures.newest ∙ ap generation c.as_slice.ensures in
     let drawn : g1 + 1 ≡ suc (generation rs) = omega (arith, newest) in
     let first = c.in_ok-log.ensures.content in
     let second = got.content ∙ first in
-    was_read u.content v w x rs last js n g1 (g1 + 1) many newest drawn (length-map c.in_ok-read.read.journals.items (λ (j : Vec PlacedRecord Global). j.items) ∙ got.many)
+    was_read u.content v w x rs last signs n g1 (g1 + 1) many newest drawn (length-map c.in_ok-read.read.signs.items (λ (j : Vec PlacedSign Global). j.items) ∙ got.many)
     (g.met.D.Disk.lawful c.read_regions.new.disk) (g.met.D.Disk.lawful c.see_regions.new.disk) got.any_moment c.in_ok-see_regions.ensures.any_moment
     c.in_ok-log.ensures.reads c.in_ok-log.ensures.durable
-    (told_at u.content v.content (HaveJournals n g1 last (journal_of js)) first got.read)
+    (told_at u.content v.content (HaveSigns n g1 last signs) first got.read)
     (told_at u.content v.content (AreAllDurable w n g1) first got.durable)
     (told_at u.content w.content (AreUnbegun n (g1 + 1)) second c.in_ok-see_regions.ensures.next)
     (told_at u.content w.content (AreUnbegunDurable x n (g1 + 1)) second c.in_ok-see_regions.ensures.durable)
@@ -235,6 +234,13 @@ returns-clause-counted g c =
     let directory = subst (λ (k : List InstanceRecord). IsDirectory k (Some c.in_ok-plan.plan.directory)) c.as_slice.ensures c.in_ok-plan.ensures.directory in
     let many : c.in_ok-plan.plan.regions ≡ length (regions rs) = c.in_ok-plan.ensures.regions ∙ ap (λ (d : Mapping). d.regions) directory.2 in
     c.in_ok-read.ensures.many_last ∙ many
+
+pub returns-clause-signs : goal.returns-clause-signs
+returns-clause-signs g c =
+    let rs = c.in_ok-log.log.records in
+    let directory = subst (λ (k : List InstanceRecord). IsDirectory k (Some c.in_ok-plan.plan.directory)) c.as_slice.ensures c.in_ok-plan.ensures.directory in
+    let many : c.in_ok-plan.plan.regions ≡ length (regions rs) = c.in_ok-plan.ensures.regions ∙ ap (λ (d : Mapping). d.regions) directory.2 in
+    c.in_ok-read.ensures.many ∙ many
 
 pub returns-clause-low : goal.returns-clause-low
 returns-clause-low g c =

@@ -1,4 +1,4 @@
-use Rattle.std.proofs.Common.{◌≡◌, ◌<◌, ℕ, true, subst, Some, None, sym, ◌∙◌, ap, arith, Err}
+use Rattle.std.proofs.Common.{◌≡◌, ◌<◌, ℕ, subst, Some, None, sym, ◌∙◌, ap, arith, Err}
 use Rattle.site_defs.specs.Contents.{same_name}
 use Rattle.site_runner.proofs.Ats.{on_not_done}
 use Rattle.site_runner.proofs.Results.{err_holds}

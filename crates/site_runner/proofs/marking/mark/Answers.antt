@@ -1,5 +1,6 @@
-use Rattle.std.proofs.Common.{Bool, ◌++◌, List, length, refl, ◌∙◌, ap, subst, Err}
+use Rattle.std.proofs.Common.{Bool, ◌++◌, refl, ◌∙◌, ap, subst, Err}
 use Rattle.std.specs.Fmt.{decimal}
+use Rattle.entry_index.specs.Found.{entry_count}
 use Rattle.world_defs.specs.Row.{refused_with, why_not_open}
 use Rattle.site_runner.specs.declared.slot.Site.{Site}
 use Rattle.site_runner.specs.Sites.{state_value, IsReadyState}
@@ -34,7 +35,7 @@ returns-in_ok-write_numbered-in-Ok-clause-done g c =
     let e = c.in-Ok.ensures in
     let s = c.args.site.now in
     marks_at c.args.word.now (g.D.Disk.disk c.args.disk.now) (g.D.Disk.disk c.epoch.new.disk) c.nothing_is_left.ensures s c.in-Primary.field-0 (record { site = c.epoch.new.self; serials = c.in-Primary.field-0.serials }) c.sequence_length-length.result c.args.text.now _
-    (g.met.D.Disk.lawful c.epoch.new.disk) c.in-Primary.is e.stamp refl e.simulated e.later e.done e.none_needs (c.sequence_length-length.ensures ∙ ap (λ (l : List _). length l) e.entries)
+    (g.met.D.Disk.lawful c.epoch.new.disk) c.in-Primary.is e.stamp refl e.simulated e.later e.done e.none_needs (c.sequence_length-length.ensures ∙ ap entry_count e.entries)
     (named c.args.text.now (c.args.word.now ++ decimal c.sequence_length-length.result) c.as_slice-in-Ok.ensures c.in_ok-write_numbered-in-Ok.ensures)
 
 pub returns-in-Err-Failed-clause-done : goal.returns-in-Err-Failed-clause-done

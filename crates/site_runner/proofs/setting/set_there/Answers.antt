@@ -4,7 +4,7 @@ use Rattle.world_defs.specs.rows.SetJournal.{SetBy}
 use Rattle.site_runner.specs.Setting.{SetsAt}
 use Rattle.site_runner.proofs.Ats.{on_not_done, on_failed, if_some}
 use Rattle.site_runner.proofs.Results.{err_holds}
-use Rattle.site_runner.proofs.Written.{named, not_a_file}
+use Rattle.site_runner.proofs.Written.{not_a_file}
 use Rattle.site_runner.proofs.Moded.{moded, there_done, there_faulted, there_damaged, there_cut}
 use Rattle.site_runner.proofs.setting.set_there.Goals as goal
 

@@ -1,5 +1,7 @@
-use Rattle.std.proofs.Common.{Bool, false, ◌≡◌, ◌++◌, ◌+◌, ℕ, List, length, refl, ◌∙◌, ap, subst, sym, Err}
+use Rattle.std.proofs.Common.{Bool, false, ◌≡◌, ◌++◌, ◌+◌, ℕ, List, refl, ◌∙◌, ap, subst, sym, Err}
 use Rattle.std.specs.Prelude.{codes}
+use Rattle.entry_index.specs.Found.{entry_count}
+use Rattle.site_store.specs.Site.{count_of}
 use Rattle.world_defs.specs.Answers.{line}
 use Rattle.site_runner.specs.Starting.{BeginsAt}
 use Rattle.site_runner.specs.declared.slot.Site.{Site}
@@ -18,7 +20,7 @@ returns-in_err-write_primary-in-Ok-clause-cut_off g c =
 pub returns-in-Ok-clause-done : goal.returns-in-Ok-clause-done
 returns-in-Ok-clause-done g c =
     let e = c.in-Ok.ensures in
-    let is_from : c.sequence_length-from.result + 1 ≡ length c.args.opened.entries + 1 = ap (λ (k : ℕ). k + 1) (c.sequence_length-from.ensures ∙ ap (λ (l : List _). length l) e.entries) in
+    let is_from : c.sequence_length-from.result + 1 ≡ count_of c.args.opened + 1 = ap (λ (k : ℕ). k + 1) (c.sequence_length-from.ensures ∙ ap entry_count e.entries) in
     reign_starts (g.D.Disk.disk c.args.disk.now) (g.D.Disk.disk c.start_reign.new.disk) c.nothing_is_left-in-Ok.ensures c.args.site.now c.args.opened c.start_reign.new.self c.in-Ok.stamp _ (c.sequence_length-from.result + 1) c.args.text.now _ (g.met.D.Disk.lawful c.start_reign.new.disk) refl
     e.begun e.stamp e.remembered e.room e.simulated e.later is_from
     (named _ _ c.as_slice.ensures c.in_ok-write_primary-in-Ok.ensures)

@@ -1,15 +1,18 @@
-use Rattle.std.proofs.Common.{◌≡◌, ℕ, List, length, None, refl, sym, subst, arith, IfSome}
+use Rattle.std.proofs.Common.{◌≡◌, ℕ, List, None, refl, sym, subst, IfSome}
 use Rattle.std.proofs.lemmas.Result.{err_from_is_err_and}
 use Rattle.disk_defs.proofs.Told.{told_at, weaker_told}
+use Rattle.global_defs.specs.Entry.{Sequence}
 use Rattle.journal_defs.specs.Sequence.{Placed}
 use Rattle.site_files.specs.Loading.{WasRead, last_of}
 use Rattle.site_store.specs.Refusing.{IsUnwritten}
+use Rattle.site_store.specs.Standing.{StandsIn}
 use Rattle.site_store.proofs.Errors.{file_was}
 use Rattle.site_store.proofs.Refused.{told_anyway, untold}
 use Rattle.site_store.proofs.Loaded.{quiet_told, quiet_left, quiet_stands}
 use Rattle.site_store.specs.declared.site.OpenSite.{OpenSite}
 use Rattle.site_store.proofs.Stood as stood
 use Rattle.site_store.proofs.opening.open_as.Goals as goal
+use Rattle.entry_index.specs.Found.{entry_count}
 
 pub returns-in_err-standing-clause-refused : goal.returns-in_err-standing-clause-refused
 returns-in_err-standing-clause-refused g c =
@@ -35,7 +38,7 @@ draw-requires-clause-read g c =
     let rs = k.log.records in
     subst (λ (l : List ℕ). IfSome v.content (λ files. (records : ℕ → List Placed) × WasRead v rs (last_of l) records files)) (sym c.deref.ensures.value)
     (told_at v.content u.content (λ files. (records : ℕ → List Placed) × WasRead v rs (last_of k.last_began.items) records files) (sym c.read_standing.ensures.content)
-    (weaker_told u.content (WasRead v rs (last_of k.last_began.items) st.journal) (λ files. (records : ℕ → List Placed) × WasRead v rs (last_of k.last_began.items) records files) st.read (λ files r. (st.journal, r))))
+    (weaker_told u.content (λ files. (journal : ℕ → List Placed) × (seq : Sequence) × StandsIn c.args.anew v k journal seq files) (λ files. (records : ℕ → List Placed) × WasRead v rs (last_of k.last_began.items) records files) st.told (λ files x. (x.0, x.2.read))))
 
 pub returns-in_err-drawn-clause-place : goal.returns-in_err-drawn-clause-place
 returns-in_err-drawn-clause-place g c =
@@ -67,7 +70,7 @@ returns-in_err-drawn-clause-any_moment g c =
     let st = c.in_ok-standing.ensures.stood in
     let lawful_v = g.met.D.Disk.lawful c.read_standing.new.disk in
     let lawful_w = g.met.D.Disk.lawful c.draw.new.disk in
-    let n : c.len-length.result ≡ length k.entries = (let e = c.len-length.ensures in omega (arith, e)) in
+    let n : c.len-length.result ≡ entry_count k.entries = c.len-length.ensures.count in
     stood.moments c.args.anew u v w k st lawful_v lawful_w c.read_standing.ensures.any_moment c.read_standing.ensures.content c.len-length.result c.as_slice-text.result.now c.deref.result.now n c.as_slice-text.ensures c.deref.ensures.value c.draw.ensures.any_moment
 
 pub returns-in_err-drawn-clause-left : goal.returns-in_err-drawn-clause-left
@@ -79,7 +82,7 @@ returns-in_err-drawn-clause-left g c =
     let st = c.in_ok-standing.ensures.stood in
     let lawful_v = g.met.D.Disk.lawful c.read_standing.new.disk in
     let lawful_w = g.met.D.Disk.lawful c.draw.new.disk in
-    let n : c.len-length.result ≡ length k.entries = (let e = c.len-length.ensures in omega (arith, e)) in
+    let n : c.len-length.result ≡ entry_count k.entries = c.len-length.ensures.count in
     stood.lefts c.args.anew u v w k st lawful_v lawful_w c.read_standing.ensures.any_moment c.read_standing.ensures.content c.len-length.result c.as_slice-text.result.now c.deref.result.now n c.as_slice-text.ensures c.deref.ensures.value c.draw.ensures.any_moment
 
 pub returns-in_err-drawn-clause-stands : goal.returns-in_err-drawn-clause-stands
@@ -91,7 +94,7 @@ returns-in_err-drawn-clause-stands g c =
     let st = c.in_ok-standing.ensures.stood in
     let lawful_v = g.met.D.Disk.lawful c.read_standing.new.disk in
     let lawful_w = g.met.D.Disk.lawful c.draw.new.disk in
-    let n : c.len-length.result ≡ length k.entries = (let e = c.len-length.ensures in omega (arith, e)) in
+    let n : c.len-length.result ≡ entry_count k.entries = c.len-length.ensures.count in
     stood.stands c.args.anew u v w k st lawful_v lawful_w c.read_standing.ensures.any_moment c.read_standing.ensures.content c.len-length.result c.as_slice-text.result.now c.deref.result.now n c.as_slice-text.ensures c.deref.ensures.value c.draw.ensures.reads
 
 pub returns-in_err-newest_journals-clause-any_moment : goal.returns-in_err-newest_journals-clause-any_moment
@@ -103,7 +106,7 @@ returns-in_err-newest_journals-clause-any_moment g c =
     let st = c.in_ok-standing.ensures.stood in
     let lawful_v = g.met.D.Disk.lawful c.read_standing.new.disk in
     let lawful_w = g.met.D.Disk.lawful c.draw.new.disk in
-    let n : c.len-length.result ≡ length k.entries = (let e = c.len-length.ensures in omega (arith, e)) in
+    let n : c.len-length.result ≡ entry_count k.entries = c.len-length.ensures.count in
     stood.moments c.args.anew u v w k st lawful_v lawful_w c.read_standing.ensures.any_moment c.read_standing.ensures.content c.len-length.result c.as_slice-text.result.now c.deref.result.now n c.as_slice-text.ensures c.deref.ensures.value c.draw.ensures.any_moment
 
 pub returns-in_err-newest_journals-clause-left : goal.returns-in_err-newest_journals-clause-left
@@ -115,7 +118,7 @@ returns-in_err-newest_journals-clause-left g c =
     let st = c.in_ok-standing.ensures.stood in
     let lawful_v = g.met.D.Disk.lawful c.read_standing.new.disk in
     let lawful_w = g.met.D.Disk.lawful c.draw.new.disk in
-    let n : c.len-length.result ≡ length k.entries = (let e = c.len-length.ensures in omega (arith, e)) in
+    let n : c.len-length.result ≡ entry_count k.entries = c.len-length.ensures.count in
     stood.lefts c.args.anew u v w k st lawful_v lawful_w c.read_standing.ensures.any_moment c.read_standing.ensures.content c.len-length.result c.as_slice-text.result.now c.deref.result.now n c.as_slice-text.ensures c.deref.ensures.value c.draw.ensures.any_moment
 
 pub returns-in_err-newest_journals-clause-stands : goal.returns-in_err-newest_journals-clause-stands
@@ -127,7 +130,7 @@ returns-in_err-newest_journals-clause-stands g c =
     let st = c.in_ok-standing.ensures.stood in
     let lawful_v = g.met.D.Disk.lawful c.read_standing.new.disk in
     let lawful_w = g.met.D.Disk.lawful c.draw.new.disk in
-    let n : c.len-length.result ≡ length k.entries = (let e = c.len-length.ensures in omega (arith, e)) in
+    let n : c.len-length.result ≡ entry_count k.entries = c.len-length.ensures.count in
     stood.stands c.args.anew u v w k st lawful_v lawful_w c.read_standing.ensures.any_moment c.read_standing.ensures.content c.len-length.result c.as_slice-text.result.now c.deref.result.now n c.as_slice-text.ensures c.deref.ensures.value c.draw.ensures.reads
 
 pub returns-clause-any_moment : goal.returns-clause-any_moment
@@ -139,7 +142,7 @@ returns-clause-any_moment g c =
     let st = c.in_ok-standing.ensures.stood in
     let lawful_v = g.met.D.Disk.lawful c.read_standing.new.disk in
     let lawful_w = g.met.D.Disk.lawful c.draw.new.disk in
-    let n : c.len-length.result ≡ length k.entries = (let e = c.len-length.ensures in omega (arith, e)) in
+    let n : c.len-length.result ≡ entry_count k.entries = c.len-length.ensures.count in
     stood.moments c.args.anew u v w k st lawful_v lawful_w c.read_standing.ensures.any_moment c.read_standing.ensures.content c.len-length.result c.as_slice-text.result.now c.deref.result.now n c.as_slice-text.ensures c.deref.ensures.value c.draw.ensures.any_moment
 
 pub returns-clause-left : goal.returns-clause-left
@@ -151,7 +154,7 @@ returns-clause-left g c =
     let st = c.in_ok-standing.ensures.stood in
     let lawful_v = g.met.D.Disk.lawful c.read_standing.new.disk in
     let lawful_w = g.met.D.Disk.lawful c.draw.new.disk in
-    let n : c.len-length.result ≡ length k.entries = (let e = c.len-length.ensures in omega (arith, e)) in
+    let n : c.len-length.result ≡ entry_count k.entries = c.len-length.ensures.count in
     stood.lefts c.args.anew u v w k st lawful_v lawful_w c.read_standing.ensures.any_moment c.read_standing.ensures.content c.len-length.result c.as_slice-text.result.now c.deref.result.now n c.as_slice-text.ensures c.deref.ensures.value c.draw.ensures.any_moment
 
 pub returns-clause-stands : goal.returns-clause-stands
@@ -163,7 +166,7 @@ returns-clause-stands g c =
     let st = c.in_ok-standing.ensures.stood in
     let lawful_v = g.met.D.Disk.lawful c.read_standing.new.disk in
     let lawful_w = g.met.D.Disk.lawful c.draw.new.disk in
-    let n : c.len-length.result ≡ length k.entries = (let e = c.len-length.ensures in omega (arith, e)) in
+    let n : c.len-length.result ≡ entry_count k.entries = c.len-length.ensures.count in
     stood.stands c.args.anew u v w k st lawful_v lawful_w c.read_standing.ensures.any_moment c.read_standing.ensures.content c.len-length.result c.as_slice-text.result.now c.deref.result.now n c.as_slice-text.ensures c.deref.ensures.value c.draw.ensures.reads
 
 pub returns-clause-drawn : goal.returns-clause-drawn
@@ -175,7 +178,7 @@ returns-clause-drawn g c =
     let st = c.in_ok-standing.ensures.stood in
     let lawful_v = g.met.D.Disk.lawful c.read_standing.new.disk in
     let lawful_w = g.met.D.Disk.lawful c.draw.new.disk in
-    let n : c.len-length.result ≡ length k.entries = (let e = c.len-length.ensures in omega (arith, e)) in
+    let n : c.len-length.result ≡ entry_count k.entries = c.len-length.ensures.count in
     stood.room c.args.anew u v w k st lawful_v lawful_w c.read_standing.ensures.any_moment c.read_standing.ensures.content c.len-length.result c.as_slice-text.result.now c.deref.result.now n c.as_slice-text.ensures c.deref.ensures.value
 
 pub returns-clause-read : goal.returns-clause-read
@@ -187,9 +190,9 @@ returns-clause-read g c =
     let st = c.in_ok-standing.ensures.stood in
     let lawful_v = g.met.D.Disk.lawful c.read_standing.new.disk in
     let lawful_w = g.met.D.Disk.lawful c.draw.new.disk in
-    let n : c.len-length.result ≡ length k.entries = (let e = c.len-length.ensures in omega (arith, e)) in
+    let n : c.len-length.result ≡ entry_count k.entries = c.len-length.ensures.count in
     let s : OpenSite = record { instance = c.in_ok-drawn.drawn.instance; layout = k.layout; journals = c.in_ok-newest_journals.field-0; entries = k.entries; globals = k.globals; hardened = c.len-length.result; stamp = None } in
-    stood.read c.args.anew u v w k st lawful_v lawful_w c.read_standing.ensures.any_moment c.read_standing.ensures.content c.len-length.result c.as_slice-text.result.now c.deref.result.now n c.as_slice-text.ensures c.deref.ensures.value s c.in_ok-drawn.ensures.records refl refl refl refl
+    stood.read_some c.args.anew u v w k st lawful_v lawful_w c.read_standing.ensures.any_moment c.read_standing.ensures.content c.len-length.result c.as_slice-text.result.now c.deref.result.now n c.as_slice-text.ensures c.deref.ensures.value s c.in_ok-drawn.ensures.records refl refl refl refl
 
 pub returns-clause-found : goal.returns-clause-found
 returns-clause-found g c =
@@ -200,7 +203,7 @@ returns-clause-found g c =
     let st = c.in_ok-standing.ensures.stood in
     let lawful_v = g.met.D.Disk.lawful c.read_standing.new.disk in
     let lawful_w = g.met.D.Disk.lawful c.draw.new.disk in
-    let n : c.len-length.result ≡ length k.entries = (let e = c.len-length.ensures in omega (arith, e)) in
+    let n : c.len-length.result ≡ entry_count k.entries = c.len-length.ensures.count in
     let s : OpenSite = record { instance = c.in_ok-drawn.drawn.instance; layout = k.layout; journals = c.in_ok-newest_journals.field-0; entries = k.entries; globals = k.globals; hardened = c.len-length.result; stamp = None } in
     stood.found c.args.anew u v w k st lawful_v lawful_w c.read_standing.ensures.any_moment c.read_standing.ensures.content c.len-length.result c.as_slice-text.result.now c.deref.result.now n c.as_slice-text.ensures c.deref.ensures.value s c.in_ok-drawn.ensures.records refl refl refl refl
 
@@ -213,7 +216,7 @@ returns-clause-held g c =
     let st = c.in_ok-standing.ensures.stood in
     let lawful_v = g.met.D.Disk.lawful c.read_standing.new.disk in
     let lawful_w = g.met.D.Disk.lawful c.draw.new.disk in
-    let n : c.len-length.result ≡ length k.entries = (let e = c.len-length.ensures in omega (arith, e)) in
+    let n : c.len-length.result ≡ entry_count k.entries = c.len-length.ensures.count in
     let s : OpenSite = record { instance = c.in_ok-drawn.drawn.instance; layout = k.layout; journals = c.in_ok-newest_journals.field-0; entries = k.entries; globals = k.globals; hardened = c.len-length.result; stamp = None } in
     stood.held c.args.anew u v w k st lawful_v lawful_w c.read_standing.ensures.any_moment c.read_standing.ensures.content c.len-length.result c.as_slice-text.result.now c.deref.result.now n c.as_slice-text.ensures c.deref.ensures.value s c.in_ok-drawn.ensures.records refl refl refl refl
 
@@ -226,7 +229,7 @@ returns-clause-opened g c =
     let st = c.in_ok-standing.ensures.stood in
     let lawful_v = g.met.D.Disk.lawful c.read_standing.new.disk in
     let lawful_w = g.met.D.Disk.lawful c.draw.new.disk in
-    let n : c.len-length.result ≡ length k.entries = (let e = c.len-length.ensures in omega (arith, e)) in
+    let n : c.len-length.result ≡ entry_count k.entries = c.len-length.ensures.count in
     let s : OpenSite = record { instance = c.in_ok-drawn.drawn.instance; layout = k.layout; journals = c.in_ok-newest_journals.field-0; entries = k.entries; globals = k.globals; hardened = c.len-length.result; stamp = None } in
     stood.opened_here c.args.anew u v w k st lawful_v lawful_w c.read_standing.ensures.any_moment c.read_standing.ensures.content c.len-length.result c.as_slice-text.result.now c.deref.result.now n c.as_slice-text.ensures c.deref.ensures.value s c.in_ok-drawn.ensures.records refl refl refl refl
 
@@ -239,7 +242,7 @@ returns-clause-ready g c =
     let st = c.in_ok-standing.ensures.stood in
     let lawful_v = g.met.D.Disk.lawful c.read_standing.new.disk in
     let lawful_w = g.met.D.Disk.lawful c.draw.new.disk in
-    let n : c.len-length.result ≡ length k.entries = (let e = c.len-length.ensures in omega (arith, e)) in
+    let n : c.len-length.result ≡ entry_count k.entries = c.len-length.ensures.count in
     let s : OpenSite = record { instance = c.in_ok-drawn.drawn.instance; layout = k.layout; journals = c.in_ok-newest_journals.field-0; entries = k.entries; globals = k.globals; hardened = c.len-length.result; stamp = None } in
     stood.ready c.args.anew u v w k st lawful_v lawful_w c.read_standing.ensures.any_moment c.read_standing.ensures.content c.len-length.result c.as_slice-text.result.now c.deref.result.now n c.as_slice-text.ensures c.deref.ensures.value s c.in_ok-drawn.ensures.records refl refl refl refl c.in_ok-drawn.drawn.journals.items c.in_ok-newest_journals.ensures c.in_ok-drawn.ensures.journal_count c.in_ok-drawn.ensures.instance refl c.in_ok-drawn.ensures.journals c.draw.ensures.frame
 
@@ -252,6 +255,6 @@ returns-clause-told g c =
     let st = c.in_ok-standing.ensures.stood in
     let lawful_v = g.met.D.Disk.lawful c.read_standing.new.disk in
     let lawful_w = g.met.D.Disk.lawful c.draw.new.disk in
-    let n : c.len-length.result ≡ length k.entries = (let e = c.len-length.ensures in omega (arith, e)) in
+    let n : c.len-length.result ≡ entry_count k.entries = c.len-length.ensures.count in
     let s : OpenSite = record { instance = c.in_ok-drawn.drawn.instance; layout = k.layout; journals = c.in_ok-newest_journals.field-0; entries = k.entries; globals = k.globals; hardened = c.len-length.result; stamp = None } in
     stood.told c.args.anew u v w k st lawful_v lawful_w c.read_standing.ensures.any_moment c.read_standing.ensures.content c.len-length.result c.as_slice-text.result.now c.deref.result.now n c.as_slice-text.ensures c.deref.ensures.value s c.in_ok-drawn.ensures.records refl refl refl refl c.in_ok-drawn.drawn.journals.items c.in_ok-newest_journals.ensures c.in_ok-drawn.ensures.drawn c.in_ok-drawn.ensures.instance_file c.in_ok-drawn.ensures.journal_files

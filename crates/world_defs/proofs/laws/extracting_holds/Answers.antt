@@ -1,4 +1,4 @@
-use Rattle.std.proofs.Common.{◌≡◌, [], ◌∷◌, length, None, refl, ◌∙◌, ap}
+use Rattle.std.proofs.Common.{◌≡◌, true, false, [], ◌∷◌, length, None, refl, ◌∙◌, ap}
 use Rattle.std.specs.Prelude.{codes}
 use Rattle.std.specs.Fmt.{digits}
 use Rattle.global_defs.specs.Entry.{Sequence}
@@ -18,3 +18,12 @@ header_alone = refl
 
 pub returns-clause-count : goal.returns-clause-count
 returns-clause-count c q text told h = h.1.shows ∙ ap (extract_from (codes "A") None) (no_entry h.1.entries h.1.count) ∙ header_alone
+
+pub returns-clause-fault : goal.returns-clause-fault
+returns-clause-fault c contents k q told h = h.1.site
+
+pub returns-clause-kept : goal.returns-clause-kept
+returns-clause-kept c contents k q told h = h.1.now
+
+pub returns-clause-no_damage : goal.returns-clause-no_damage
+returns-clause-no_damage c contents file offset q told h = let unknown : true ≡ false = h.1.unknown in cc

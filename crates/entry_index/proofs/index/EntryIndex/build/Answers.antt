@@ -1,4 +1,4 @@
-use Rattle.std.proofs.Common.{rules, ◌≡◌, ◌≤◌, ◌+◌, ◌*◌, ℕ, List, length, map, Bool, Option, None, IfSome, IsErrOf, sym, ◌∙◌, ap, subst, arith, if◌then◌else◌}
+use Rattle.std.proofs.Common.{rules, ◌≡◌, ◌≤◌, ◌+◌, ◌*◌, ℕ, List, length, map, Bool, true, false, Option, None, IfSome, IsErrOf, sym, ◌∙◌, ap, subst, arith, if◌then◌else◌}
 use Rattle.std.proofs.lemmas.List.{length-map}
 use Rattle.disk_defs.proofs.Frames.{reads_more}
 use Rattle.disk_defs.proofs.Told.{told_at, weaker_told, both_weak}

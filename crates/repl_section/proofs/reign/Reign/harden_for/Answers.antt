@@ -1,5 +1,6 @@
-use Rattle.std.proofs.Common.{◌≤◌, ℕ, length, refl, sym, ◌∙◌, ap, subst}
+use Rattle.std.proofs.Common.{◌≤◌, ℕ, refl, sym, ◌∙◌, ap, subst}
 use Rattle.std.specs.Prelude.{Option, IfSome, IsSome}
+use Rattle.entry_index.specs.Found.{entry_count}
 use Rattle.site_store.specs.Site.{IsOpen}
 use Rattle.repl_section.specs.Replies.{named}
 use Rattle.repl_section.specs.Deciding.{hardened_for}
@@ -16,7 +17,7 @@ returns-in-Some-clause-done g c =
 pub returns-in-Some-clause-hardened : goal.returns-in-Some-clause-hardened
 returns-in-Some-clause-hardened g c =
     on_ok c.harden.result _ _ c.harden.ensures.all (λ all.
-    subst (λ (count : ℕ). IfSome (named c.args.decision.now.reply) (λ number. number ≤ count)) (sym (all ∙ ap length c.harden.ensures.entries)) c.requires.entered)
+    subst (λ (count : ℕ). IfSome (named c.args.decision.now.reply) (λ number. number ≤ count)) (sym (all ∙ ap entry_count c.harden.ensures.entries)) c.requires.entered)
 
 pub returns-in-Some-clause-waited : goal.returns-in-Some-clause-waited
 returns-in-Some-clause-waited g c = on_err c.harden.result (subst IsSome (sym c.in-Some.is ∙ c.entry.ensures) refl)

@@ -1,9 +1,10 @@
-use Rattle.std.proofs.Common.{◌≡◌, ◌++◌, ◌∷◌, [], List, length, Err, ap, sym, ◌∙◌, subst}
+use Rattle.std.proofs.Common.{◌≡◌, ◌++◌, ◌∷◌, [], List, Err, ap, sym, ◌∙◌, subst}
 use Rattle.std.proofs.lemmas.Result.{err_from_is_err_and}
 use Rattle.global_defs.specs.Entry.{Reign}
 use Rattle.gvn_model.specs.Reigns.{reign_value}
 use Rattle.journal_defs.specs.Surviving.{reigns}
 use Rattle.journal_laws.proofs.Runs as runs
+use Rattle.entry_index.specs.Found.{entry_count}
 use Rattle.site_store.specs.declared.error.SiteError.TheVariants as error
 use Rattle.site_store.specs.Owning.{IsGoing, IsOpenSite}
 use Rattle.site_store.proofs.Begun as reigning
@@ -25,7 +26,7 @@ returns-in-Ok-clause-ready g c =
       fault = c.in_default.is;
       files = c.in-Ok.ensures.ready;
       history = record {
-        count = was.count ∙ ap length (sym c.begin_reign.ensures.entries);
+        count = was.count ∙ ap entry_count (sym c.begin_reign.ensures.entries);
         surviving = c.in_ok-reign.ensures.reigns ∙ ap (λ (l : List Reign). l ++ r ∷ []) was.surviving ∙ sym (runs.reigns-more c.args.self.now.inner.instance.records r) ∙ sym (ap reigns c.in-Ok.ensures.records);
       };
     }
@@ -44,7 +45,7 @@ returns-clause-goes_on g c is =
       fault = c.in_default.is;
       files = c.in-Err.ensures.goes_on (ap Err none);
       history = record {
-        count = was.count ∙ ap length (sym c.begin_reign.ensures.entries);
+        count = was.count ∙ ap entry_count (sym c.begin_reign.ensures.entries);
         surviving = was.surviving ∙ sym (ap reigns c.in-Err.ensures.kept);
       };
     })

@@ -1,16 +1,13 @@
-use Rattle.std.proofs.Common.{[], ◌∷◌, ◌<◌, refl, sym, subst, ◌∙◌, ap, arith, length, length-append}
-use Rattle.std.specs.Prelude.{◌^◌, fold}
-use Rattle.gvn_model.specs.Entries.{entry_value}
+use Rattle.std.proofs.Common.{ℕ, ◌<◌, refl, sym, subst, arith}
+use Rattle.std.specs.Prelude.{◌^◌}
+use Rattle.site_store.proofs.Places.{counts_places, whole_places, same_count, same_whole}
 use Rattle.site_regions.proofs.Making.{changed_none}
-use Rattle.global_defs.specs.Entry.{Sequence, apply}
-use Rattle.gvn_model.specs.declared.entry.Transaction as code
-use Rattle.site_regions.specs.Joined.{joined}
 use Rattle.site_store.proofs.Committed as committed
 use Rattle.site_store.proofs.site.OpenSite.prepare.Goals as goal
 
 pub returns-in_err-prepare-clause-ready : goal.returns-in_err-prepare-clause-ready
 returns-in_err-prepare-clause-ready g c =
-    committed.ready_prepared (g.D.Disk.disk c.args.disk.now) (g.D.Disk.disk c.prepare.new.disk) c.args.self.now _ c.prepare.new.self c.requires.ready c.prepare.ensures.ready c.prepare.ensures.count c.prepare.ensures.frame refl refl refl (changed_none _) c.requires.ready.few
+    committed.ready_prepared (g.D.Disk.disk c.args.disk.now) (g.D.Disk.disk c.prepare.new.disk) c.args.self.now _ c.prepare.new.self c.requires.ready c.prepare.ensures.ready c.prepare.ensures.count c.prepare.ensures.frame refl refl refl (changed_none _) c.requires.ready.few c.requires.ready.whole refl
 
 pub returns-in_err-prepare-clause-frame : goal.returns-in_err-prepare-clause-frame
 returns-in_err-prepare-clause-frame g c = committed.own_stays (g.D.Disk.disk c.args.disk.now) (g.D.Disk.disk c.prepare.new.disk) c.args.self.now c.requires.ready c.prepare.ensures.frame
@@ -19,7 +16,8 @@ pub returns-in_err-remember-clause-ready : goal.returns-in_err-remember-clause-r
 returns-in_err-remember-clause-ready g c =
     committed.ready_prepared (g.D.Disk.disk c.args.disk.now) (g.D.Disk.disk c.prepare.new.disk) c.args.self.now c.remember.new.self c.prepare.new.self c.requires.ready c.prepare.ensures.ready c.prepare.ensures.count c.prepare.ensures.frame
     c.remember.ensures.journals c.remember.ensures.same.instance c.remember.ensures.same.layout c.remember.ensures.changed
-    (subst (λ (l : Sequence). length l < 2 ^ 40) (sym c.in_err-remember.ensures.kept.entries) c.requires.ready.few)
+    (subst (λ (n : ℕ). n < 2 ^ 40) (sym (same_count c.args.self.now.entries c.remember.new.self.entries c.in_err-remember.ensures.kept.entries)) c.requires.ready.few)
+    (same_whole c.args.self.now.entries c.remember.new.self.entries c.in_err-remember.ensures.kept.entries c.requires.ready.whole) c.in_err-remember.ensures.kept.entries.regions
 
 pub returns-in_err-remember-clause-frame : goal.returns-in_err-remember-clause-frame
 returns-in_err-remember-clause-frame g c = committed.own_stays (g.D.Disk.disk c.args.disk.now) (g.D.Disk.disk c.prepare.new.disk) c.args.self.now c.requires.ready c.prepare.ensures.frame
@@ -28,7 +26,8 @@ pub returns-clause-ready : goal.returns-clause-ready
 returns-clause-ready g c =
     committed.ready_prepared (g.D.Disk.disk c.args.disk.now) (g.D.Disk.disk c.prepare.new.disk) c.args.self.now c.remember.new.self c.prepare.new.self c.requires.ready c.prepare.ensures.ready c.prepare.ensures.count c.prepare.ensures.frame
     c.remember.ensures.journals c.remember.ensures.same.instance c.remember.ensures.same.layout c.remember.ensures.changed
-    (let more = ap length c.in_ok-remember.ensures.entries ∙ length-append c.args.self.now.entries (entry_value c.in_ok-entry.entry ∷ []) in let room = c.requires.room in omega (arith, more, room))
+    (let more = counts_places c.in_ok-parts.parts c.remember.new.self.journals.journals.items c.args.self.now.entries c.remember.new.self.entries c.requires.ready.some_place c.requires.ready.whole c.in_ok-remember.ensures.entries in let room = c.requires.room in omega (arith, more, room))
+    (whole_places c.in_ok-parts.parts c.remember.new.self.journals.journals.items c.args.self.now.entries c.remember.new.self.entries c.requires.ready.some_place c.requires.ready.whole c.in_ok-remember.ensures.entries) c.in_ok-remember.ensures.entries.regions
 
 pub returns-clause-prepared : goal.returns-clause-prepared
 returns-clause-prepared g c = committed.still_prepared c.in_ok-parts.parts c.remember.new.self c.prepare.new.self c.remember.ensures.journals c.in_ok-prepare.ensures.prepared
@@ -37,10 +36,4 @@ pub returns-clause-frame : goal.returns-clause-frame
 returns-clause-frame g c = committed.own_stays (g.D.Disk.disk c.args.disk.now) (g.D.Disk.disk c.prepare.new.disk) c.args.self.now c.requires.ready c.prepare.ensures.frame
 
 pub returns-clause-enters : goal.returns-clause-enters
-returns-clause-enters g c = record {
-  entry = c.in_ok-entry.entry;
-  next = c.in_ok-entry.ensures;
-  entries = c.in_ok-remember.ensures.entries;
-  globals = c.in_ok-remember.ensures.globals ∙ ap (λ (t : code.Transaction). fold apply (joined c.args.self.now.globals) t.updates) c.in_ok-entry.ensures.transaction;
-  changed = c.remember.ensures.changed;
-}
+returns-clause-enters g c = record { places = c.in_ok-remember.ensures.entries; globals = c.in_ok-remember.ensures.globals; changed = c.remember.ensures.changed }

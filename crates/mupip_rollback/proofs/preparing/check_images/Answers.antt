@@ -1,0 +1,18 @@
+use Rattle.std.proofs.Common.{◌≡◌, ℕ, List, Option, IfSome, subst}
+use Rattle.journal_defs.specs.Sequence.{Placed}
+use Rattle.region_opening.specs.Signs.{AllSay}
+use Rattle.region_opening.specs.declared.needing.WithoutImages.{WithoutImages}
+use Rattle.site_store.specs.Needing.{IsFirstWithout}
+use Rattle.site_store.specs.Standing.{found_records, found_signs}
+use Rattle.mupip_rollback.proofs.preparing.check_images.Goals as goal
+
+pub returns-in-Some-clause-first : goal.returns-in-Some-clause-first
+returns-in-Some-clause-first c = λ region generation is journal say.
+    let found = c.args.found.now in
+    let t = c.args.target in
+    let x = c.in-Some.needing in
+    let one : x.region ≡ region = cc is in
+    let two : x.generation ≡ generation = cc is in
+    let first : (journal : ℕ → List Placed) → AllSay (found_signs found) journal → IsFirstWithout (found_records found journal) t x.region x.generation =
+    subst (λ (o : Option WithoutImages). IfSome o (λ y. (journal : ℕ → List Placed) → AllSay (found_signs found) journal → IsFirstWithout (found_records found journal) t y.region y.generation)) c.in-Some.is c.in_ok-first_needing.ensures.first in
+    subst (λ (r : ℕ). IsFirstWithout (found_records found journal) t r generation) one (subst (λ (h : ℕ). IsFirstWithout (found_records found journal) t x.region h) two (first journal say))
