@@ -122,7 +122,7 @@ fn same(rt: &impl Abort, alloc: Global, leaves: &Leaves, globals: &Globals) {
 }
 
 /// The leaves of the bytes that these blocks are written as.
-fn again(rt: &impl Abort, alloc: Global, pool: &BlockPool) -> Leaves {
+pub(crate) fn again(rt: &impl Abort, alloc: Global, pool: &BlockPool) -> Leaves {
     let mut back = BlockPool::new(alloc);
     let mut bytes = [0; 4096];
     for number in 0..pool.count() {

@@ -1,4 +1,4 @@
-//! Worked blocks, pools written out while the disk fails, and leaves beside globals in a tree.
+//! Worked blocks, pools written out while the disk fails, leaves beside globals in a tree, and what a change touches.
 #![tactic(auto)]
 
 #[cfg(test)]
@@ -11,3 +11,5 @@ mod keys;
 mod leaves;
 #[cfg(test)]
 mod pools;
+#[cfg(test)]
+mod touched;

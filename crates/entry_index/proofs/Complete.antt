@@ -1,6 +1,7 @@
 -- What signs tell of the completeness of entries.
 use Rattle.std.proofs.Common.{◌≡◌, ℕ, suc, ◌+◌, ◌≤◌, ◌<◌, ◌==◌, ◌&&◌, ◌||◌, not, Bool, true, false, List, [], ◌∷◌, ◌++◌, length, take, drop, get_or, Option, Some, None, IsSome, is_some, refl, sym, ◌∙◌, ap, subst, arith, if◌then◌else◌}
 use Rattle.std.proofs.Math.Path.{fun_ext}
+use Rattle.std.proofs.lemmas.Bool.Decides.{nat_tests}
 use Rattle.std.proofs.lemmas.List.{drop_all, take_all}
 use Rattle.std.specs.List.{list_all}
 use Rattle.std.specs.Option.{option_map, option_and_then}
@@ -24,8 +25,9 @@ use Rattle.entry_index.specs.declared.completing.Told.TheVariants.{Complete, Bro
 use Rattle.entry_index.specs.declared.place.PartPlace.{PartPlace}
 use Rattle.entry_index.specs.Parts.{InFiles, NOWHERE, IsPartAt, AreParts}
 use Rattle.entry_index.specs.Signs.{Tells, IsSign}
-use Rattle.entry_index.specs.Completing.{is_like_some, agrees_by_sign, NO_SPAN, span_told, span_at, place_told, IsTold, Decides}
+use Rattle.entry_index.specs.Completing.{is_like_some, agrees_by_sign, NO_SPAN, span_told, span_at, place_told, IsTold, Decides, IsAlone}
 use Rattle.entry_index.specs.Indexes.{IsNext}
+use Rattle.entry_index.proofs.Alone.{one_part}
 
 -- items in a row
 pub row_end : (i : ℕ) (items : List Item) → next_after i items ≡ (if is_row i items then Some (i + length items) else None)
@@ -144,6 +146,15 @@ told_by_part files n part stamp r head told is decides =
     subst (λ (o : Option Part). IsTold told (option_and_then (λ q. entry_by part stamp q) o)) (sym at)
     (told_mapped (λ us. entry_of stamp p.origin.updater p.origin.serial us) told (updates_by part p) (decides p tells))
 
+-- and by the only part, whose positions are in order
+pub told_alone : (files : Files) (n : ℕ) (part : ℕ → Option Part) (stamp : Stamp) (r : ℕ) (head : PartSign) → r < 8 → IsSign files r n (Some head) (part r) → IsAlone head r → IsSome (entry_in part stamp r)
+told_alone files n part stamp r head low is (mask, row, first, many) =
+    let (p, at, tells) = head_part files r n head (part r) is in
+    let counts : (0 + head.span.many == p.count) ≡ true = grind (arith, nat_tests, many, tells.count) in
+    let order : is_at p.count (next_after 0 p.items) ≡ true = ap (is_at p.count) (span_end 0 p.items head.span tells.span row first) ∙ counts in
+    subst (λ (o : Option Part). IsSome (option_and_then (λ q. entry_by part stamp q) o)) (sym at)
+    (told_mapped (λ us. entry_of stamp p.origin.updater p.origin.serial us) Complete (updates_by part p) (one_part part r p low at (sym tells.mask ∙ mask) order))
+
 pub no_part_there : (files : Files) (n : ℕ) (part : ℕ → Option Part) (stamp : Stamp) (r : ℕ) → IsSign files r n None (part r) → entry_in part stamp r ≡ None
 no_part_there files n part stamp r is = ap (option_and_then (λ q. entry_by part stamp q)) (no_head files r n (part r) is)
 
@@ -179,19 +190,15 @@ none_there : {X : Type 0} (o : Option X) → false ≡ is_some o → o ≡ None
 none_there None h = refl
 none_there (Some x) h = cc
 
--- whether the next entry is there, by what is known of its parts
-pub next_is : (files : Files) (reigns : List Reign) (n : ℕ) (part : ℕ → Option Part) (s : Stamp) (complete : Bool) (row old new : List PartPlace) → Some s ≡ stamp_at n reigns
-    → complete ≡ is_some (entry_among part s REGIONS) → AreParts (InFiles files) n row part → new ≡ (if complete then old ++ row else old) → IsNext files reigns n part complete old new
-next_is files reigns n part s true row old new begun is at places = (row, places, at, subst (λ (o : Option Stamp). IsSome (entry_with part o)) begun (sym is))
-next_is files reigns n part s false row old new begun is at places = (places, sym (ap (entry_with part) begun) ∙ none_there (entry_among part s REGIONS) is)
+-- the next entry, or none, by what is known of its parts
+pub is_next : (files : Files) (reigns : List Reign) (n : ℕ) (part : ℕ → Option Part) (s : Stamp) (row old new : List PartPlace) → Some s ≡ stamp_at n reigns
+    → true ≡ is_some (entry_among part s REGIONS) → AreParts (InFiles files) n row part → new ≡ old ++ row → IsNext files reigns n part true old new
+is_next files reigns n part s row old new begun is at places = (row, places, at, subst (λ (o : Option Stamp). IsSome (entry_with part o)) begun (sym is))
 
--- what is made of something that is there, or isn't
-pub none_mapped : {X Y : Type 0} (f : X → Y) (o : Option X) (b : Bool) → is_some o ≡ not b → b ≡ true → None ≡ option_map f o
-none_mapped f None b is none = refl
-none_mapped f (Some x) true is none = cc
-none_mapped f (Some x) false is none = cc
+pub no_next : (files : Files) (reigns : List Reign) (n : ℕ) (part : ℕ → Option Part) (s : Stamp) (old : List PartPlace) → Some s ≡ stamp_at n reigns
+    → false ≡ is_some (entry_among part s REGIONS) → IsNext files reigns n part false old old
+no_next files reigns n part s old begun is = (refl, sym (ap (entry_with part) begun) ∙ none_there (entry_among part s REGIONS) is)
 
-pub some_mapped : {X Y : Type 0} (f : X → Y) (o : Option X) (b : Bool) → is_some o ≡ not b → b ≡ false → (y : Y) × (Some y ≡ option_map f o)
-some_mapped f None true is some = cc
-some_mapped f None false is some = cc
-some_mapped f (Some x) b is some = (f x, refl)
+-- no reign has begun by then
+pub not_begun : (files : Files) (reigns : List Reign) (n : ℕ) (part : ℕ → Option Part) (old : List PartPlace) → is_some (stamp_at n reigns) ≡ false → IsNext files reigns n part false old old
+not_begun files reigns n part old none = (refl, ap (entry_with part) (none_there (stamp_at n reigns) (sym none)))

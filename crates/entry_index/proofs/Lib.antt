@@ -1,6 +1,8 @@
 pub mod Rows
 pub mod ReadParts
 pub mod Laws
+pub mod Alone
+pub mod Begun
 pub mod Columns
 pub mod Signed
 pub mod Complete

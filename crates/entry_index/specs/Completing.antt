@@ -1,5 +1,5 @@
 -- What signs tell of entries.
-use Rattle.std.specs.Prelude.{◌≡◌, ℕ, ◌||◌, not, Bool, true, false, if◌then◌else◌, Option, Some, None, IsSome}
+use Rattle.std.specs.Prelude.{◌≡◌, ℕ, ◌^◌, ◌||◌, not, Bool, true, false, if◌then◌else◌, Option, Some, None, IsSome}
 use Rattle.journal_defs.specs.Journal.{Part}
 use Rattle.journal_defs.specs.Sequence.{in_mask, updates_by}
 use Rattle.jnl_index.specs.declared.sign.Span.{Span}
@@ -44,3 +44,7 @@ IsTold Unsure o = Unit {0}
 -- what is told of the entry by a part holds
 abbrev pub Decides : Told → (ℕ → Option Part) → Part → Type 0
 Decides told part p = IsTold told (updates_by part p)
+
+-- the part is the only one of its entry, and its updates have all positions in order
+abbrev pub IsAlone : PartSign → ℕ → Type 0
+IsAlone s r = (s.mask ≡ 2 ^ r) × (s.span.in_a_row ≡ true) × (s.span.first ≡ 0) × (s.span.many ≡ s.count)

@@ -1,8 +1,8 @@
 //! Indexes built from the signs of records.
-ghost use Rattle.std.specs.Prelude.{◌≡◌, ◌≤◌, ◌<◌, ◌+◌, ◌*◌, ◌^◌, ℕ, List, length, map, Option, None, IfOk, IfSome, IsErrOf, if◌then◌else◌};
+ghost use Rattle.std.specs.Prelude.{◌≡◌, ◌≤◌, ◌<◌, ◌+◌, ◌*◌, ◌^◌, ℕ, List, length, map, Option, None, is_some, IfOk, IfSome, OnOk, IsErrOf, true, if◌then◌else◌};
 ghost use Rattle.disk_defs.specs.Disk.{Reads, Rose};
 ghost use Rattle.global_defs.specs.Entry as defs;
-ghost use Rattle.gvn_model.specs.Reigns.{reign_value};
+ghost use Rattle.global_defs.specs.Prefix as prefix;
 ghost use Rattle.journal_defs.specs.Journal as journal;
 ghost use Rattle.journal_defs.specs.Sequence as sequences;
 ghost use Rattle.journal_defs.specs.Surviving as surviving;
@@ -12,32 +12,49 @@ ghost use Rattle.entry_index.specs.Indexes.{AreSigns, Indexes, IsNext};
 ghost use Rattle.entry_index.specs.Table.{AreSigned, AddsRow};
 ghost use Rattle.entry_index.specs.Parts.{InFiles};
 
-use crate::completing::{is_complete, places_of};
+use crate::completing::{is_complete, place_in};
 use crate::error::IndexError;
 use crate::index::EntryIndex;
 use crate::table::{SignTable, count_all};
-use gvn_model::{Reign, Reigns};
+use gvn_key::NoMemory;
+use gvn_model::Reigns;
 use instance_file::InstanceRecords;
 use jnl_index::PlacedSign;
-use mupip_recover::{Cuts, stamp_at, starts_of};
+use mupip_recover::{Cuts, starts_of};
 use repl_disk::Disk;
 use std::alloc::Global;
+
+/// Adds the places of the parts of the entry at a place, one a region.
+fn push_places(table: &SignTable, place: usize, made: &mut EntryIndex) -> Result<(), NoMemory>
+    ensures row { OnOk result (AddsRow table.now place made.old.regions true made.old.places.items made.new.places.items) }
+    ensures regions { made.new.regions ≡ made.old.regions }
+{
+    for region in 0..made.regions {
+        made.places.push(place_in(table, place, region))?;
+    }
+    Ok(())
+}
+
+/// Whether some reign has begun by the entry of a number, by the starts that [`starts_of`] gives.
+fn has_begun(starts: &[u64], number: u64) -> bool
+    ensures { (rs : List defs.Reign) → AreStarts rs starts.now → result ≡ is_some (prefix.stamp_at number rs) }
+{
+    !starts.is_empty() && starts[0] <= number
+}
 
 /// Adds the row of the entry at a place, where it's complete and a reign had begun by then, and answers whether it is.
 fn add_row<D: Disk>(
     alloc: Global,
     disk: &mut D,
     table: &SignTable,
-    reigns: &[Reign],
     starts: &[u64],
     place: usize,
     made: &mut EntryIndex,
 ) -> Result<bool, IndexError>
-    requires starts { AreStarts (map reign_value reigns.now) starts.now }
     requires place { place + 1 < 2 ^ 64 }
     requires few { made.old.regions ≤ 8 }
     ensures added { IfOk result (λ more. IfSome (D.disk disk.old).content (λ files. (part : ℕ → Option journal.Part) → AreSigned files table.now place (place + 1) part → ((r : ℕ) → made.old.regions ≤ r → part r ≡ None)
-        → IsNext files (map reign_value reigns.now) (place + 1) part more made.old.places.items made.new.places.items)) }
+        → (rs : List defs.Reign) → AreStarts rs starts.now → IsNext files rs (place + 1) part more made.old.places.items made.new.places.items)) }
     ensures many { IfOk result (λ more. length made.new.places.items ≡ (if more then length made.old.places.items + made.old.regions else length made.old.places.items)) }
     ensures row { IfOk result (λ more. AddsRow table.now place made.old.regions more made.old.places.items made.new.places.items) }
     ensures regions { made.new.regions ≡ made.old.regions }
@@ -46,16 +63,14 @@ fn add_row<D: Disk>(
     ensures later { (D.disk disk.old).faults ≤ (D.disk disk.new).faults }
     ensures cause { IsErrOf result IndexError.Failed → Rose (D.disk disk.old).faults (D.disk disk.new).faults }
 {
-    if stamp_at(reigns, starts, place as u64 + 1).is_none() {
+    if !has_begun(starts, place as u64 + 1) {
         return Ok(false);
     }
-    let places = places_of(alloc, table, place, made.regions)?;
-    let row = places.as_slice();
-    let complete = is_complete(alloc, disk, table, place, row)?;
+    let complete = is_complete(alloc, disk, table, place, made.regions)?;
     if !complete {
         return Ok(false);
     }
-    made.push(row)?;
+    push_places(table, place, made)?;
     Ok(true)
 }
 
@@ -100,7 +115,7 @@ impl EntryIndex {
             places: Vec::new(alloc),
         };
         for place in 0..places {
-            let more = add_row(alloc, disk, &table, reigns, &starts, place, &mut made)?;
+            let more = add_row(alloc, disk, &table, &starts, place, &mut made)?;
             if !more {
                 return Ok(made);
             }

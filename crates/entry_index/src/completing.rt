@@ -11,7 +11,7 @@ ghost use Rattle.mupip_recover.specs.Slots.{next_after, is_at};
 ghost use Rattle.entry_index.specs.Parts.{NOWHERE, InFiles, AreParts};
 ghost use Rattle.entry_index.specs.Signs.{Tells};
 ghost use Rattle.entry_index.specs.Table.{sign_at, AreSigned};
-ghost use Rattle.entry_index.specs.Completing.{agrees_by_sign, span_at, place_told, Decides, IsTold};
+ghost use Rattle.entry_index.specs.Completing.{agrees_by_sign, span_at, place_told, Decides, IsTold, IsAlone};
 
 use crate::error::IndexError;
 use crate::place::{NOWHERE, PartPlace};
@@ -143,13 +143,30 @@ fn told_by(table: &SignTable, place: usize, head: &PartSign) -> Told
     }
 }
 
+/// Whether a region's part is the only one of its entry, with all positions in order.
+fn is_alone(head: &PartSign, region: u8) -> bool
+    requires { region < 8 }
+    ensures { IsTrue result → IsAlone head.now region }
+{
+    head.mask == 1 << region
+        && head.span.in_a_row
+        && head.span.first == 0
+        && head.span.many == head.count
+}
+
 /// What the signs at a place tell of the entry there by its part in a region.
 fn told_in(table: &SignTable, place: usize, region: u8) -> Told
+    requires { region < 8 }
     ensures { (files : Files) (n : ℕ) (part : ℕ → Option journal.Part) → AreSigned files table.now place n part → (stamp : defs.Stamp) → IsTold result (entry_in part stamp region) }
 {
     match table.part(place, region) {
         None => Told::Broken,
-        Some(head) => told_by(table, place, &head),
+        Some(head) => {
+            if is_alone(&head, region) {
+                return Told::Complete;
+            }
+            told_by(table, place, &head)
+        }
     }
 }
 
@@ -167,7 +184,7 @@ fn told_at(table: &SignTable, place: usize) -> Told
 }
 
 /// Where the part of an entry in a region stands.
-fn place_in(table: &SignTable, place: usize, region: u8) -> PartPlace
+pub fn place_in(table: &SignTable, place: usize, region: u8) -> PartPlace
     ensures { result ≡ place_told (sign_at table.now place region) }
 {
     match table.part(place, region) {
@@ -177,7 +194,7 @@ fn place_in(table: &SignTable, place: usize, region: u8) -> PartPlace
 }
 
 /// The places of an entry's parts, one a region, of so many regions.
-pub fn places_of(
+fn places_of(
     alloc: Global,
     table: &SignTable,
     place: usize,
@@ -195,19 +212,19 @@ pub fn places_of(
     Ok(made)
 }
 
-/// Whether the entry at a place of the table, with this row of places, is complete.
+/// Whether the entry at a place of the table, of so many regions, is complete.
 pub fn is_complete<D: Disk>(
     alloc: Global,
     disk: &mut D,
     table: &SignTable,
     place: usize,
-    row: &[PartPlace],
+    regions: u8,
 ) -> Result<bool, IndexError>
-    requires few { length row.now ≤ 8 }
+    requires few { regions ≤ 8 }
     requires place { place + 1 < 2 ^ 64 }
-    ensures complete { IfOk result (λ complete. IfSome (D.disk disk.old).content (λ files. (part : ℕ → Option journal.Part) → AreSigned files table.now place (place + 1) part → AreParts (InFiles files) (place + 1) row.now part
+    ensures complete { IfOk result (λ complete. IfSome (D.disk disk.old).content (λ files. (part : ℕ → Option journal.Part) → AreSigned files table.now place (place + 1) part → ((r : ℕ) → regions ≤ r → part r ≡ None)
         → (stamp : defs.Stamp) → complete ≡ is_some (entry_among part stamp REGIONS))) }
-    ensures outside { (file offset : ℕ) → IsErrOf result (IndexError.NotAFile file offset) → IfSome (D.disk disk.old).content (λ files. (part : ℕ → Option journal.Part) → AreParts (InFiles files) (place + 1) row.now part → ⊥) }
+    ensures outside { (file offset : ℕ) → IsErrOf result (IndexError.NotAFile file offset) → IfSome (D.disk disk.old).content (λ files. (part : ℕ → Option journal.Part) → AreSigned files table.now place (place + 1) part → ((r : ℕ) → regions ≤ r → part r ≡ None) → ⊥) }
     ensures reads { Reads (D.disk disk.old) (D.disk disk.new) }
     ensures later { (D.disk disk.old).faults ≤ (D.disk disk.new).faults }
     ensures cause { IsErrOf result IndexError.Failed → Rose (D.disk disk.old).faults (D.disk disk.new).faults }
@@ -216,6 +233,8 @@ pub fn is_complete<D: Disk>(
         Told::Complete => Ok(true),
         Told::Broken => Ok(false),
         Told::Unsure => {
+            let places = places_of(alloc, table, place, regions)?;
+            let row = places.as_slice();
             let found = read_transaction(alloc, disk, row, place as u64 + 1)?;
             Ok(found.is_some())
         }

@@ -43,16 +43,15 @@ pub fn count_all(signs: &[Vec<PlacedSign>]) -> Option<usize>
     Some(count)
 }
 
-/// Puts a sign at the place of its part's number, if that is a part and there is such a place.
-fn put<'a>(column: &mut Vec<Option<&'a PlacedSign>>, placed: &'a PlacedSign)
+/// Puts the sign of a part at the place of its number, if there is such a place.
+fn put<'a>(column: &mut Vec<Option<&'a PlacedSign>>, placed: &'a PlacedSign, part: &PartSign)
+    requires { part_sign_in placed.now ≡ Some part.now }
     ensures many { length column.new.items ≡ length column.old.items }
     ensures put { (i : ℕ) → i < length column.old.items
         → sign_in_column i column.new.items ≡ option_or (if_numbered (i + 1) (part_sign_in placed.now)) (sign_in_column i column.old.items) }
 {
-    if let Some(part) = part_sign(placed) {
-        if part.number >= 1 && part.number <= column.len() as u64 {
-            column[(part.number - 1) as usize] = Some(placed);
-        }
+    if part.number >= 1 && part.number <= column.len() as u64 {
+        column[(part.number - 1) as usize] = Some(placed);
     }
 }
 
@@ -65,7 +64,7 @@ fn put_surviving<'a>(cuts: &Cuts, column: &mut Vec<Option<&'a PlacedSign>>, plac
 {
     if let Some(part) = part_sign(placed) {
         if cuts.spare(placed.generation, part.number) {
-            put(column, placed);
+            put(column, placed, &part);
         }
     }
 }
@@ -75,9 +74,7 @@ fn empty_column<'a>(alloc: Global, places: usize) -> Result<Vec<Option<&'a Place
     ensures { IfOk result (λ made. made.items ≡ replicate places None) }
 {
     let mut made = Vec::new(alloc);
-    for _place in 0..places {
-        made.push(None)?;
-    }
+    made.resize(places, None)?;
     Ok(made)
 }
 

@@ -1,5 +1,5 @@
 //! The leaves of a pool in the order of their chain.
-ghost use Rattle.std.specs.Prelude.{◌≡◌, ◌≢◌, ◌≤◌, ◌<◌, ◌+◌, ℕ, true, [], ◌∷◌, length, take, drop, IfOk, IfErr, IfSome, OnOk, OnErr, IsErrOf};
+ghost use Rattle.std.specs.Prelude.{◌≡◌, ◌≢◌, ◌≤◌, ◌<◌, ◌+◌, ◌-◌, ℕ, true, [], ◌∷◌, length, take, drop, IfOk, IfErr, IfSome, OnOk, OnErr, IsErrOf};
 ghost use Rattle.std.specs.List.{AllByRecursion};
 ghost use Rattle.std.specs.Ordering.{nat_cmp};
 ghost use Rattle.std.specs.Cmp.Lexicographic.{slice_cmp};
@@ -68,6 +68,20 @@ impl Chain {
         ensures { result.now.cells ≡ leaf_cells self.now.leaves i }
     {
         self.pool.block(self.order[i])
+    }
+
+    /// The blocks of the leaves from a place up to the one before another.
+    pub(crate) fn blocks(&self, from: usize, to: usize) -> &[u32]
+        requires order { from ≤ to }
+        requires inside { to ≤ length self.now.leaves }
+        ensures { length result.now ≡ to - from }
+    {
+        &self.order[from..to]
+    }
+
+    /// The block that is no leaf and that the next new leaf takes, if there is one.
+    pub(crate) fn next_free(&self) -> Option<u32> {
+        self.free.last().copied()
     }
 
     /// Puts a cell into the leaf at a place.

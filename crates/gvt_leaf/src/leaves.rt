@@ -30,7 +30,8 @@ use super::chain::Chain;
 use super::edits::{kill, remove, set};
 use super::error::ChainError;
 use super::nodes::{Node, key_of, nodes_under};
-use super::seats::{first_past, value_of};
+use super::seats::{first_past, seat, value_of};
+use super::touched::{touched_by_kill, touched_by_removal, touched_by_set};
 use block_pool::{BlockPool, PoolError};
 use gvn_globals::Lookup;
 use gvn_key::terms::Update;
@@ -165,6 +166,33 @@ impl Leaves {
             let past = key.past(last)?;
             sub_below(first_past(&self.chain, past.as_slice()), key)
         }
+    }
+
+    /// The blocks of the leaves that a change is about to change, in the chain's order: those with cells of its nodes, and the one
+    /// before them where one of them is emptied, since its link changes then. A KILL of a node that isn't there changes none. A leaf that's
+    /// cut in two has its other part in a new block or in the one that [`taken`](Leaves::taken) tells.
+    pub fn touched(&self, update: &Update) -> &[u32] {
+        let span = match update {
+            Update::Set(key, _) => touched_by_set(&self.chain, key.as_encoded()),
+            Update::Kill(key) => touched_by_kill(&self.chain, key.as_encoded()),
+            Update::ZKill(key) => touched_by_removal(&self.chain, key.as_encoded()),
+        };
+        self.chain.blocks(span.from, span.to)
+    }
+
+    /// The block of no leaf that a change takes for the other part of a leaf that it cuts in two, where it does and there is one.
+    pub fn taken(&self, update: &Update) -> Option<u32> {
+        let free = self.chain.next_free()?;
+        match update {
+            Update::Set(key, value) if !self.has_place(key, value.as_slice()) => Some(free),
+            _ => None,
+        }
+    }
+
+    /// Whether a node's leaf has room for its cell with this value.
+    fn has_place(&self, key: &Key, value: &[u8]) -> bool {
+        let leaf = seat(&self.chain, key.as_encoded());
+        self.chain.leaf(leaf).fits(key.as_encoded(), value)
     }
 
     /// Makes room for changes that set so many nodes. More than `u32::MAX` nodes take more memory than there is.

@@ -18,7 +18,8 @@
 //! # Modules
 //!
 //! `pages` changes single blocks. `chain` keeps the leaves in their order, the free blocks, and empty ones for leaves that are added.
-//! `walk` reads a chain. Above it `seats` finds keys, `edits` sets and kills, `nodes` lists, and `leaves` is the map.
+//! `walk` reads a chain. Above it `seats` finds keys, `edits` sets and kills, `touched` tells what a change is
+//! about to change, `nodes` lists, and `leaves` is the map.
 #![tactic(auto)]
 
 mod chain;
@@ -28,6 +29,7 @@ mod leaves;
 mod nodes;
 mod pages;
 mod seats;
+mod touched;
 mod walk;
 
 pub use error::ChainError;

@@ -1,4 +1,5 @@
 pub mod Reading
+pub mod Needed
 pub mod Fronts
 pub mod Sites
 pub mod Blocks

@@ -7,12 +7,13 @@ use Rattle.journal_defs.specs.Journal.{JournalRecord, Epoch, Pblk, Before, Mark}
 use Rattle.journal_defs.specs.Instance.{regions}
 use Rattle.journal_defs.specs.Directory.{patterns}
 use Rattle.journal_defs.specs.Sequence.{Records}
-use Rattle.journal_defs.specs.Epochs.{chosen, NeedsForward}
+use Rattle.journal_defs.specs.Epochs.{chosen, block_of, NeedsForward}
 use Rattle.journal_defs.specs.Sound.{region_state, NoEpochPast}
 use Rattle.journal_defs.specs.Stands.{in_generation}
 use Rattle.journal_defs.specs.Growth.{NonePast}
 use Rattle.journal_defs.specs.Fit.{IsSoundImage}
 use Rattle.block_laws.specs.Fronts.{AreNewest}
+use Rattle.before_image.specs.Images.{first_image}
 use Rattle.region_store.specs.Region.{Standing, HoldsRegion, IsHeld, changed_images}
 use Rattle.region_journals.specs.declared.journals.RegionJournal.{RegionJournal}
 use Rattle.region_journals.specs.Journals.{AreReady, KeepsJournals}
@@ -42,6 +43,10 @@ IsStillSound s seq g f = (t : Records) × IsSoundImage f t seq × HasMore (lengt
 -- what is logged of a region's changed blocks, as these files read
 abbrev pub images_in : Joined → Files → ℕ → List JournalRecord
 images_in j files r = image_records (changed_images (region_at j r) (files (region_at j r).file))
+
+-- the image that one block of a region needs, as these files read
+abbrev pub image_needed : Joined → Files → ℕ → ℕ → List Before
+image_needed j files r b = first_image (region_at j r).imaged b (block_of (files (region_at j r).file) b)
 
 -- The journals of generation g are open for calls, and each region's blocks are those of some epoch and its database file.
 pub record IsTogether (v : View) (g : ℕ) (js : List RegionJournal) (j : Joined) : Type 0 where

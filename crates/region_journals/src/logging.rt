@@ -42,7 +42,7 @@ impl RegionJournal {
         requires goes_on { IsTrue self.old.appended → HasSyncs self.old.journal }
         requires may_be { AllByRecursion MayBeAppended records.now }
         ensures all { OnOk result (HasLogged (D.disk disk.old) (D.disk disk.new) (map record_value records.now) self.old self.new) }
-        ensures fewer { IsErrOf result JournalError.NoMemory → (k : ℕ) × HasLogged (D.disk disk.old) (D.disk disk.new) (take k (map record_value records.now)) self.old self.new }
+        ensures fewer { IsErrOf result JournalError.NoMemory → (k : ℕ) × (k < length records.now) × HasLogged (D.disk disk.old) (D.disk disk.new) (take k (map record_value records.now)) self.old self.new }
         ensures any_moment { (hard waiting : List JournalRecord) → files.HasRecords (D.disk disk.old) self.old.journal (record { hard = hard; opening = []; closed = waiting }) → AtEachMoment (D.disk disk.old) (D.disk disk.new) (OnlyOn (D.disk disk.old) self.old.journal.gated.file (StandsRecords hard [])) }
         ensures frame { OthersStay (Only self.old.journal.gated.file) (D.disk disk.old) (D.disk disk.new) }
         ensures later { (D.disk disk.old).faults ≤ (D.disk disk.new).faults }
@@ -62,7 +62,7 @@ impl RegionJournals {
     ///
     /// # Errors
     /// `Failed`, where the disk's count rose: the journals are of no more use then. `NoMemory`: the first few of the records wait then,
-    /// and the journals can go on.
+    /// but not all, and the journals can go on.
     pub fn append_records<D: Disk>(
         &mut self,
         disk: &mut D,
@@ -75,7 +75,7 @@ impl RegionJournals {
         ensures ready { OnOk result ((g : ℕ) → AreReady (D.disk disk.old) g self.old.journals.items → AreReady (D.disk disk.new) g self.new.journals.items) }
         ensures goes_on { IsErrOf result JournalError.NoMemory → (g : ℕ) → AreReady (D.disk disk.old) g self.old.journals.items → AreReady (D.disk disk.new) g self.new.journals.items }
         ensures state { OnOk result ((hard waiting : ℕ → List JournalRecord) → KeepsJournals (D.disk disk.old) hard waiting self.old.journals.items → KeepsJournals (D.disk disk.new) hard (λ r. waiting r ++ in_region region (map record_value records.now) r) self.new.journals.items) }
-        ensures fewer { IsErrOf result JournalError.NoMemory → (k : ℕ) × ((hard waiting : ℕ → List JournalRecord) → KeepsJournals (D.disk disk.old) hard waiting self.old.journals.items → KeepsJournals (D.disk disk.new) hard (λ r. waiting r ++ in_region region (take k (map record_value records.now)) r) self.new.journals.items) }
+        ensures fewer { IsErrOf result JournalError.NoMemory → (k : ℕ) × (k < length records.now) × ((hard waiting : ℕ → List JournalRecord) → KeepsJournals (D.disk disk.old) hard waiting self.old.journals.items → KeepsJournals (D.disk disk.new) hard (λ r. waiting r ++ in_region region (take k (map record_value records.now)) r) self.new.journals.items) }
         ensures count { length self.new.journals.items ≡ length self.old.journals.items }
         ensures any_moment { (g : ℕ) (hard waiting : ℕ → List JournalRecord) → AreReady (D.disk disk.old) g self.old.journals.items → KeepsJournals (D.disk disk.old) hard waiting self.old.journals.items → AtEachMoment (D.disk disk.old) (D.disk disk.new) (OnlyIn (D.disk disk.old) (IsNewestFile g (length self.old.journals.items)) (HasFirst g (length self.old.journals.items) hard waiting (λ r. 0))) }
         ensures frame { (g : ℕ) → AreReady (D.disk disk.old) g self.old.journals.items → OthersStay (IsNewestFile g (length self.old.journals.items)) (D.disk disk.old) (D.disk disk.new) }

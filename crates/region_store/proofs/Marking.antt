@@ -158,6 +158,23 @@ holds_logged e bytes g s h = record {
     not_free true b is free = absurd (no_both (is_free (logged_marks s) b) (free_below s.pool.dirty s.imaged (length s.pool.leaves) b is) free)
     not_free false b is free = is
 
+-- the same of one block whose image is logged
+pub holds_first : (e : Chosen) (bytes : List ℕ) (g b : ℕ) (s : Standing) → HoldsRegion e bytes s → HoldsRegion (logged_all e (placed_images g (first_image s.imaged b (block_of bytes b)))) bytes (with_marks s (with_image s.imaged b))
+holds_first e bytes g b s h = record {
+  clean = h.clean;
+  blocks = h.blocks;
+  knows = knows_first s.imaged e g b (block_of bytes b) h.knows;
+  whole = λ c low free. h.whole c low (not_free (is_free s.imaged c) c refl free);
+}
+  where
+    not_free : (t : Bool) → (c : ℕ) → is_free s.imaged c ≡ t → is_free (with_image s.imaged b) c ≡ false → is_free s.imaged c ≡ false
+    not_free true c is free = absurd (no_both (is_free (with_image s.imaged b) c) (free_stays s.imaged b c is) free)
+    not_free false c is free = is
+
+-- the mark was set over the region's own
+pub first_marked : (f : ℕ) (l : Stored) (marks new : List Bool) (b : ℕ) (s : Standing) → standing f l marks ≡ s → new ≡ with_image marks b → standing f l new ≡ with_marks s (with_image s.imaged b)
+first_marked f l marks new b s is made = subst (λ (x : Standing). standing f l new ≡ with_marks x (with_image x.imaged b)) is (ap (λ (ms : List Bool). standing f l ms) made)
+
 -- ---- what images keep
 
 may_if : (e : Chosen) (s : Standing) (bytes : List ℕ) (g b : ℕ) (t : Bool) → MayAppendAll e (block_of bytes) (placed_images g (if t then first_image s.imaged b (block_of bytes b) else []))

@@ -22,13 +22,12 @@ ghost use Rattle.journal_defs.specs.Sound.{Restores};
 ghost use Rattle.site_defs.specs.OutsideBlocks.{IsOutsideAt};
 ghost use Rattle.block_laws.specs.Nodes.{AreFormed, HaveKeys};
 ghost use Rattle.block_laws.specs.Several.{logged_all};
-ghost use Rattle.block_pool.specs.Pool.{is_dirty};
-ghost use Rattle.before_image.specs.Images.{placed_images};
+ghost use Rattle.before_image.specs.Images.{is_free, with_image, first_image, placed_images};
 ghost use Rattle.gvt_leaf.specs.Listed.{node_value};
 ghost use Rattle.gvt_leaf.specs.Stored.{HasRoom, sets_of, blocks_in};
 ghost use Rattle.jnl_record.specs.Values.{record_value, placed_value};
 ghost use Rattle.region_store.specs.Laid.{epoch_at, AreLaid};
-ghost use Rattle.region_store.specs.Region.{HoldsRegion, IsHeld, IsSameRegion, IsChanged, stored_in, AreLogged, IsFlushed, IsCutShort, IsReplayed, flushed, with_marks, image_at, images_below, changed_images, logged_marks};
+ghost use Rattle.region_store.specs.Region.{HoldsRegion, IsHeld, IsSameRegion, IsChanged, stored_in, AreLogged, IsFlushed, IsCutShort, IsReplayed, flushed, with_marks, images_below, changed_images, logged_marks};
 
 use super::error::RegionError;
 use super::flushing::{mark_dirty, sync_file, write_changed};
@@ -224,16 +223,46 @@ impl Region {
         self.leaves.pool().count()
     }
 
-    /// Logs the bytes of a block that has changed as they stand on the file, where it may not be written yet.
-    fn log_block<D: Disk, L: Log>(
+    /// Adds a block to a list where it needs an image before it's written.
+    fn list_unlogged(&self, block: u32, list: &mut Vec<u32>) -> Result<(), NoMemory>
+        requires { AllByRecursion (λ b. is_free self.now.imaged b ≡ false) list.old.items }
+        ensures { AllByRecursion (λ b. is_free self.now.imaged b ≡ false) list.new.items }
+    {
+        if !self.imaged.may_write(block) {
+            list.push(block)?;
+        }
+        Ok(())
+    }
+
+    /// The blocks that a change is about to change first behind the epoch, each of which needs an image before it's written. It tells
+    /// those that one change by itself changes: what others change before it in the same list may come besides, and has its image when
+    /// the blocks are [flushed](Region::log_changed).
+    pub fn unlogged(&self, alloc: Global, update: &Update) -> Result<Vec<u32>, NoMemory>
+        ensures { IfOk result (λ made. AllByRecursion (λ b. is_free self.now.imaged b ≡ false) made.items) }
+    {
+        let mut list = Vec::new(alloc);
+        for block in self.leaves.touched(update) {
+            self.list_unlogged(*block, &mut list)?;
+        }
+        if let Some(block) = self.leaves.taken(update) {
+            self.list_unlogged(block, &mut list)?;
+        }
+        Ok(list)
+    }
+
+    /// Logs the bytes of a block as they stand on the file, where it may not be written yet. It sets no mark, so that what was logged
+    /// can be given up: [`mark_image`](Region::mark_image) is for when the journal has it.
+    ///
+    /// # Errors
+    /// `Failed` only where the disk's count of faults rose, and `NoMemory`: nothing was logged then.
+    pub fn log_image<D: Disk, L: Log>(
         &self,
         disk: &mut D,
         block: u32,
         log: &mut L,
     ) -> Result<(), RegionError>
         requires held { IfSome (D.disk disk.old).content (IsHeld self.now) }
-        requires changed { is_dirty self.now.pool block ≡ true }
-        ensures logged { OnOk result (IfSome (D.disk disk.old).content (λ files. L.images log.new ≡ L.images log.old ++ image_at self.now (files self.now.file) block)) }
+        ensures logged { OnOk result (IfSome (D.disk disk.old).content (λ files. L.images log.new ≡ L.images log.old ++ first_image self.now.imaged block (block_of (files self.now.file) block))) }
         ensures none { OnErr result (L.images log.new ≡ L.images log.old) }
         ensures place { (f offset : ℕ) → IsErrOf result (RegionError.NotAFile f offset) → ⊥ }
         ensures reads { Reads (D.disk disk.old) (D.disk disk.new) }
@@ -248,6 +277,15 @@ impl Region {
             }),
             Err(ImageError::NoMemory) => Err(RegionError::NoMemory),
         }
+    }
+
+    /// Keeps that a block has an image: what [`log_image`](Region::log_image) logged is in the journal.
+    pub fn mark_image(&mut self, block: u32)
+        ensures marks { self.new ≡ with_marks self.old (with_image self.old.imaged block) }
+        // behind the image, in whichever generation, the region's blocks are those of the same epoch
+        ensures holds { (e : Chosen) (bytes : List ℕ) (g : ℕ) → HoldsRegion e bytes self.old → HoldsRegion (logged_all e (placed_images g (first_image self.old.imaged block (block_of bytes block)))) bytes self.new }
+    {
+        self.imaged.mark(block);
     }
 
     /// Logs what the file has of each block that has changed and may not be written yet, in the blocks' order. It sets no mark, so that
@@ -268,7 +306,7 @@ impl Region {
     {
         let numbers = self.leaves.pool().dirty_numbers();
         for number in numbers {
-            self.log_block(disk, *number, log)?;
+            self.log_image(disk, *number, log)?;
         }
         Ok(())
     }

@@ -343,3 +343,27 @@ fn a_flush_that_fails_and_is_done_again(rt: HostRuntime) {
         assert!(&rt; first == (5 <= calls));
     }
 }
+
+/// The blocks that need an image before the node of number 7 is taken away.
+fn unlogged(rt: &impl Abort, alloc: Global, region: &Region) -> Vec<u32> {
+    let update = Update::ZKill(node(rt, alloc, 7));
+    region.unlogged(alloc, &update).expect(rt, "memory")
+}
+
+/// The block of a node of the epoch is listed until it has an image.
+fn listed_once<D: Disk>(rt: &impl Abort, alloc: Global, disk: &mut D) {
+    let (mut region, _) = at_epoch(rt, alloc, disk);
+    let mut log = no_log(alloc);
+    assert!(rt; unlogged(rt, alloc, &region).as_slice() == [0].as_slice());
+    region.log_image(disk, 0, &mut log).expect(rt, "an image");
+    assert!(rt; log.records.len() == 1);
+    assert!(rt; unlogged(rt, alloc, &region).len() == 1);
+    region.mark_image(0);
+    assert!(rt; unlogged(rt, alloc, &region).is_empty());
+}
+
+#[test]
+fn a_block_that_is_listed_until_it_has_an_image(rt: HostRuntime) {
+    let mut disk = MemDisk::new(rt.alloc()).expect(&rt, "memory");
+    listed_once(&rt, rt.alloc(), &mut disk);
+}

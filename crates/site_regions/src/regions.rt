@@ -17,6 +17,7 @@ ghost use Rattle.gvn_globals.specs.Walks.{after};
 ghost use Rattle.journal_defs.specs.Journal as journal;
 ghost use Rattle.journal_defs.specs.Journal.{Mark};
 ghost use Rattle.journal_defs.specs.Directory.{region_of};
+ghost use Rattle.journal_defs.specs.Fit.{key_of};
 ghost use Rattle.journal_defs.specs.Epochs.{Chosen, image_state, block_of};
 ghost use Rattle.journal_defs.specs.Sound.{Restores};
 ghost use Rattle.journal_defs.specs.Undo.{fresh};
@@ -24,7 +25,7 @@ ghost use Rattle.gvt_leaf.specs.Listed.{node_value};
 ghost use Rattle.gvt_leaf.specs.Stored.{HasRoom, sets_in};
 ghost use Rattle.block_laws.specs.Nodes.{updates_in};
 ghost use Rattle.block_laws.specs.Several.{logged_all};
-ghost use Rattle.before_image.specs.Images.{placed_images};
+ghost use Rattle.before_image.specs.Images.{is_free, with_image, first_image, placed_images};
 ghost use Rattle.jnl_record.specs.Values.{record_value};
 ghost use Rattle.region_store.specs.Region.{Standing, HoldsRegion, IsHeld, AreLogged, IsFlushed, IsCutShort, stored_in, flushed, with_marks, changed_images, images_below, logged_marks};
 ghost use Rattle.site_regions.specs.Joined.{joined, AreJoined, ArePartsOf, HasRoomFor, IsSameJoined, IsSameElsewhere, AreChanged, region_at};
@@ -234,6 +235,64 @@ impl Regions {
         self.reserve(updates)?;
         self.make(updates);
         Ok(())
+    }
+
+    /// The number of the region in which a change is made.
+    pub fn number_of(&self, update: &Update) -> usize
+        ensures number { result ≡ region_of self.now.patterns (key_of (update_value update.now)).name }
+        ensures inside { result < length self.now.regions }
+    {
+        self.directory.region_of(name_of(update)) as usize
+    }
+
+    /// The blocks of one region that a change there is about to change first behind the epoch, each of which needs an image before it's
+    /// written.
+    pub fn unlogged(
+        &self,
+        number: usize,
+        alloc: Global,
+        update: &Update,
+    ) -> Result<Vec<u32>, NoMemory>
+        requires { number < length self.now.regions }
+        ensures { IfOk result (λ made. AllByRecursion (λ b. is_free (region_at self.now number).imaged b ≡ false) made.items) }
+    {
+        self.region(number).unlogged(alloc, update)
+    }
+
+    /// Logs the bytes of a block of one region as they stand on the file, where it may not be written yet. It sets no mark, so that what
+    /// was logged can be given up: [`mark_image`](Regions::mark_image) is for when the journal has it.
+    ///
+    /// # Errors
+    /// `Failed` only where the disk's count of faults rose, and `NoMemory`: nothing was logged then.
+    pub fn log_image<D: Disk, L: Log>(
+        &self,
+        number: usize,
+        disk: &mut D,
+        block: u32,
+        log: &mut L,
+    ) -> Result<(), RegionError>
+        requires inside { number < length self.now.regions }
+        requires held { IfSome (D.disk disk.old).content (IsHeld (region_at self.now number)) }
+        ensures logged { OnOk result (IfSome (D.disk disk.old).content (λ files. L.images log.new ≡ L.images log.old ++ first_image (region_at self.now number).imaged block (block_of (files (region_at self.now number).file) block))) }
+        ensures none { OnErr result (L.images log.new ≡ L.images log.old) }
+        ensures place { (f offset : ℕ) → IsErrOf result (RegionError.NotAFile f offset) → ⊥ }
+        ensures reads { Reads (D.disk disk.old) (D.disk disk.new) }
+        ensures later { (D.disk disk.old).faults ≤ (D.disk disk.new).faults }
+        ensures count { (fault : ℕ) → IsErrOf result (RegionError.Failed fault) → fault ≡ (D.disk disk.new).faults }
+        ensures cause { (fault : ℕ) → IsErrOf result (RegionError.Failed fault) → Rose (D.disk disk.old).faults (D.disk disk.new).faults }
+    {
+        self.region(number).log_image(disk, block, log)
+    }
+
+    /// Keeps that a block of one region has an image: what [`log_image`](Regions::log_image) logged is in the journal.
+    pub fn mark_image(&mut self, number: usize, block: u32)
+        requires inside { number < length self.old.regions }
+        ensures marks { region_at self.new number ≡ with_marks (region_at self.old number) (with_image (region_at self.old number).imaged block) }
+        // behind the image, in whichever generation, the region's blocks are those of the same epoch
+        ensures holds { (e : Chosen) (bytes : List ℕ) (g : ℕ) → HoldsRegion e bytes (region_at self.old number) → HoldsRegion (logged_all e (placed_images g (first_image (region_at self.old number).imaged block (block_of bytes block)))) bytes (region_at self.new number) }
+        ensures same { IsSameElsewhere number self.old self.new }
+    {
+        self.regions[number].mark_image(block);
     }
 
     /// Logs what the file of one region has of each of its blocks that has changed and may not be written yet, in the blocks' order. It

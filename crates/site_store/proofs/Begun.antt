@@ -1,5 +1,5 @@
 -- A reign begins.
-use Rattle.std.proofs.Common.{◌≡◌, ◌≢◌, ◌⊎◌, inl, inr, ◌≤◌, ◌<◌, ◌+◌, ◌==◌, ℕ, suc, Bool, true, false, List, [], ◌∷◌, ◌++◌, length, take, drop, Some, None, refl, sym, ◌∙◌, ap, subst, arith}
+use Rattle.std.proofs.Common.{◌≡◌, ◌≢◌, ◌⊎◌, inl, inr, ◌≤◌, ◌<◌, ◌+◌, ◌==◌, ℕ, suc, Bool, true, false, List, [], ◌∷◌, ◌++◌, length, map, take, drop, Some, None, refl, sym, ◌∙◌, ap, subst, arith}
 use Rattle.std.specs.Prelude.{◌^◌, Option, IfSome, IsSomeAnd, ◌||◌, if◌then◌else◌, nat_le, filter}
 use Rattle.std.specs.List.{AllByRecursion}
 use Rattle.std.specs.Option.{option_or}
@@ -19,12 +19,14 @@ use Rattle.journal_defs.specs.Instance.{InstanceRecord, Reigned, generation, reg
 use Rattle.journal_defs.specs.Directory.{Pattern, patterns}
 use Rattle.journal_defs.specs.Surviving.{reigns}
 use Rattle.journal_defs.specs.Sequence.{Placed, Records}
-use Rattle.journal_defs.specs.Stands.{IsInstance}
-use Rattle.journal_defs.specs.Growth.{with_record, AreEntries, appended, tcoms}
-use Rattle.journal_defs.specs.Fit.{IsSoundImage, IsAtHome, MOST_REIGNS}
+use Rattle.journal_defs.specs.Stands.{IsInstance, in_generation}
+use Rattle.journal_defs.specs.Epochs.{Chosen, chosen, block_of}
+use Rattle.journal_defs.specs.Growth.{with_record, with_more, AreEntries}
+use Rattle.journal_defs.specs.Fit.{IsSoundImage, MOST_REIGNS}
 use Rattle.journal_laws.proofs.Runs as runs
 use Rattle.journal_laws.proofs.Later as later
 use Rattle.journal_laws.proofs.Appending.{journal_same}
+use Rattle.block_laws.specs.Several.{MayAppendAll}
 use Rattle.instance_file.specs.Instance as instances
 use Rattle.instance_file.specs.declared.instance.Instance.{Instance}
 use Rattle.region_journals.specs.declared.journals.RegionJournals.{RegionJournals}
@@ -41,7 +43,7 @@ use Rattle.site_store.specs.declared.site.OpenSite.{OpenSite}
 use Rattle.site_store.proofs.HeldRegions.{held_stays, no_instance_file, synced_stays}
 use Rattle.site_store.specs.Finding.{HasLayout}
 use Rattle.site_regions.specs.Joined.{joined}
-use Rattle.site_store.specs.Site.{Remembers, AreHeld, IsReady, Keeps, IsOpen, WasOpened, HasReign, AreOnBlocks, count_of}
+use Rattle.site_store.specs.Site.{Remembers, AreHeld, IsReady, AreWaiting, Keeps, IsOpen, WasOpened, HasReign, AreOnBlocks, count_of}
 use Rattle.site_store.proofs.OnBlocks.{on_same, on_chosen}
 use Rattle.site_store.specs.Reigning.{HasNoReignLeft, HasReignLeft, IsNextReign}
 use Rattle.site_store.proofs.Standing.{images_stand, reads_of, reads_so, told_of, still}
@@ -52,6 +54,7 @@ use Rattle.entry_index.specs.declared.index.EntryIndex.{EntryIndex}
 use Rattle.site_store.proofs.Indexing.{index_begun, stand_same}
 use Rattle.site_store.proofs.Remembered.{remembered_length}
 use Rattle.site_store.proofs.Parts.{no_entry_no_part}
+use Rattle.site_store.proofs.Waiting.{same_waits}
 use Rattle.entry_index.specs.Found.{entry_count, IsWhole}
 use Rattle.entry_index.specs.Among.{IsIndexOf}
 
@@ -276,16 +279,23 @@ module _ (v w : View) (c : Contents) (old new : OpenSite) (k : Keeps v c (length
   nothing_waits : k.waiting ≡ []
   nothing_waits = none_waiting c.instance (suc k.g) (length c.sequence) k.waiting (drop (length c.sequence) c.sequence) (drop-length c.sequence) k.are_waiting
 
+  -- what waits are images at most
+  images_wait : AreWaiting c.instance (suc k.g) [] k.waits
+  images_wait = subst (λ (ps : List (ℕ → Option Part)). AreWaiting c.instance (suc k.g) ps k.waits) nothing_waits k.are_waits
+
+  abbrev waits_in : ℕ → List Placed
+  waits_in r = map (in_generation (suc k.g)) (k.waits r)
+
   -- the regions' blocks are still those of the epochs, since no REIGN drops one
-  on_begun : (f : Files) → Image w f → AreOnBlocks f (with_record k.records (Reigned (reign_of c))) (length c.sequence) new.globals
+  on_begun : (f : Files) → Image w f → AreOnBlocks f (with_more (with_record k.records (Reigned (reign_of c))) waits_in) (length c.sequence) new.globals
   on_begun f now =
       let from = stays.images f now in
       let same : length (regions (k.records.instance ++ Reigned (reign_of c) ∷ [])) ≡ length (regions k.records.instance) =
       ap (λ (l : List InstanceRecord). length (regions (l ++ Reigned (reign_of c) ∷ []))) k.newest.instance ∙ count ∙ ap (λ (l : List InstanceRecord). length (regions l)) (sym k.newest.instance) in
-      subst (AreOnBlocks f (with_record k.records (Reigned (reign_of c))) (length c.sequence)) (sym globals)
-      (on_same from.0 f (with_record k.records (Reigned (reign_of c))) (length c.sequence) old.globals (λ r low. from.2 (database_file r) (λ e. omega (arith, e)))
-      (on_chosen from.0 k.records (with_record k.records (Reigned (reign_of c))) (length c.sequence) (length c.sequence) old.globals same (patterns_kept k.records.instance (reign_of c))
-      (λ r low. (refl, later.other_instance k.records.instance (Reigned (reign_of c)) (length c.sequence) (k.records.journal r) (λ h m. refl))) (k.blocks from.0 from.1)))
+      subst (AreOnBlocks f (with_more (with_record k.records (Reigned (reign_of c))) waits_in) (length c.sequence)) (sym globals)
+      (on_same from.0 f (with_more (with_record k.records (Reigned (reign_of c))) waits_in) (length c.sequence) old.globals (λ r low. from.2 (database_file r) (λ e. omega (arith, e)))
+      (on_chosen from.0 (with_more k.records waits_in) (with_more (with_record k.records (Reigned (reign_of c))) waits_in) (length c.sequence) (length c.sequence) old.globals same (patterns_kept k.records.instance (reign_of c))
+      (λ r low. (refl, later.other_instance k.records.instance (Reigned (reign_of c)) (length c.sequence) (k.records.journal r ++ waits_in r) (λ h m. refl))) (k.blocks from.0 from.1)))
 
   keeps_begun : Keeps w (begun c) (length c.sequence) new
   keeps_begun = record {
@@ -298,6 +308,7 @@ module _ (v w : View) (c : Contents) (old new : OpenSite) (k : Keeps v c (length
     last = k.last;
     older = k.older;
     newer = k.newer;
+    waits = k.waits;
     newest = record {
       generation = generation_kept c.instance (reign_of c) ∙ k.newest.generation;
       not_last = k.newest.not_last;
@@ -318,12 +329,18 @@ module _ (v w : View) (c : Contents) (old new : OpenSite) (k : Keeps v c (length
         (subst (AreEntries (c.instance ++ Reigned (reign_of c) ∷ []) (suc k.g) (length c.sequence) []) (sym (drop-length c.sequence)) tt);
     are_parts = nothing_waits ∙ no_entry_no_part (patterns (c.instance ++ Reigned (reign_of c) ∷ [])) c.sequence;
     in_regions = subst (λ (n : ℕ). AreInside n k.waiting) (sym count) k.in_regions;
-    indexed = subst (λ (i : EntryIndex). IsIndexOf (λ r. k.records.journal r ++ appended (suc k.g) k.waiting r) (reigns (c.instance ++ Reigned (reign_of c) ∷ [])) i c.sequence) (sym entries)
-        (index_begun (λ r. k.records.journal r ++ appended (suc k.g) k.waiting r) c.instance (reign_of c) old.entries c.sequence (omega arith) k.indexed);
-    at_home = λ r low. subst (λ (ps : List (ℕ → Option Part)). AllByRecursion (λ (p : Placed). IsAtHome (c.instance ++ Reigned (reign_of c) ∷ []) r p.generation p.what) (appended (suc k.g) ps r)) (sym nothing_waits) tt;
+    indexed = subst (λ (i : EntryIndex). IsIndexOf (λ r. k.records.journal r ++ map (in_generation (suc k.g)) (k.waits r)) (reigns (c.instance ++ Reigned (reign_of c) ∷ [])) i c.sequence) (sym entries)
+        (index_begun (λ r. k.records.journal r ++ map (in_generation (suc k.g)) (k.waits r)) c.instance (reign_of c) old.entries c.sequence (omega arith) k.indexed);
+    are_waits = subst (λ (ps : List (ℕ → Option Part)). AreWaiting (c.instance ++ Reigned (reign_of c) ∷ []) (suc k.g) ps k.waits) (sym nothing_waits)
+        (same_waits c.instance (c.instance ++ Reigned (reign_of c) ∷ []) (suc k.g) k.waits count images_wait);
+    may_append = λ f now r low.
+        let from = stays.images f now in
+        let same : f (database_file r) ≡ from.0 (database_file r) = from.2 (database_file r) (λ e. omega (arith, e)) in
+        subst (λ (e : Chosen). MayAppendAll e (block_of (f (database_file r))) (waits_in r)) (sym (later.other_instance c.instance (Reigned (reign_of c)) (length c.sequence) (k.records.journal r) (λ h m. refl)))
+        (subst (λ (bytes : List ℕ). MayAppendAll (chosen c.instance (length c.sequence) (k.records.journal r)) (block_of bytes) (waits_in r)) (sym same) (k.may_append from.0 from.1 r (here r low)));
     instance_file = has;
-    journal_files = subst (λ (js : RegionJournals). KeepsJournals w k.newer (tcoms k.waiting) js.journals.items) (sym journals)
-        (frames.journals_keep v w (Only INSTANCE) old.journals.journals.items stays away k.newer (tcoms k.waiting) k.journal_files);
+    journal_files = subst (λ (js : RegionJournals). KeepsJournals w k.newer k.waits js.journals.items) (sym journals)
+        (frames.journals_keep v w (Only INSTANCE) old.journals.journals.items stays away k.newer k.waits k.journal_files);
   }
 
 pub past_in : (c : Contents) (h : ℕ) (s : OpenSite) → Remembers c h s → AllByRecursion (λ (q : Reign). q.start ≤ count_of s) (reigns s.instance.records) → AllByRecursion (λ (q : Reign). q.start < length c.sequence + 1) (reigns c.instance)
@@ -382,23 +399,25 @@ open_kept v w told c h old new lawful ready stays unwritten state records entrie
         last = k.last;
         older = k.older;
         newer = k.newer;
+        waits = k.waits;
         newest = record { generation = k.newest.generation; not_last = k.newest.not_last; instance = k.newest.instance; whole = k.newest.whole; begins = k.newest.begins; begun = k.newest.begun };
         sound = λ f now. k.sound f (was f now);
         older_files = λ f now. k.older_files f (was f now);
         older_stand = λ f now. k.older_stand f (was f now);
         none_past = k.none_past;
-        blocks = λ f now. subst (AreOnBlocks f k.records h) (sym changed) (k.blocks f (was f now));
+        blocks = λ f now. subst (AreOnBlocks f (with_more k.records (λ r. map (in_generation (suc k.g)) (k.waits r))) h) (sym changed) (k.blocks f (was f now));
         databases = λ f d i j. k.databases f d (was f i) (was d j);
         no_epoch_past = k.no_epoch_past;
         waiting = k.waiting;
         are_waiting = k.are_waiting;
         are_parts = k.are_parts;
         in_regions = k.in_regions;
-        indexed = subst (λ (i : EntryIndex). IsIndexOf (λ r. k.records.journal r ++ appended (suc k.g) k.waiting r) (reigns c.instance) i c.sequence) (sym entries) k.indexed;
-        at_home = k.at_home;
+        indexed = subst (λ (i : EntryIndex). IsIndexOf (λ r. k.records.journal r ++ map (in_generation (suc k.g)) (k.waits r)) (reigns c.instance) i c.sequence) (sym entries) k.indexed;
+        are_waits = k.are_waits;
+        may_append = λ f now. k.may_append f (was f now);
         instance_file = state c.instance k.instance_file;
-        journal_files = subst (λ (js : RegionJournals). KeepsJournals w k.newer (tcoms k.waiting) js.journals.items) (sym journals)
-            (frames.journals_keep v w (Only INSTANCE) old.journals.journals.items stays (journals_away v old ready) k.newer (tcoms k.waiting) k.journal_files);
+        journal_files = subst (λ (js : RegionJournals). KeepsJournals w k.newer k.waits js.journals.items) (sym journals)
+            (frames.journals_keep v w (Only INSTANCE) old.journals.journals.items stays (journals_away v old ready) k.newer k.waits k.journal_files);
       };
 }
 

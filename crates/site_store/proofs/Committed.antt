@@ -1,5 +1,5 @@
 -- An entry is prepared, and then appended.
-use Rattle.std.proofs.Common.{◌≡◌, inl, inr, ◌≤◌, ◌<◌, ◌+◌, ◌-◌, ℕ, suc, Bool, true, List, [], ◌∷◌, ◌++◌, length, take, drop, Some, None, refl, sym, ◌∙◌, ap, subst, arith, append-nil, length-append}
+use Rattle.std.proofs.Common.{◌≡◌, inl, inr, ◌≤◌, ◌<◌, ◌+◌, ◌-◌, ℕ, suc, Bool, true, List, [], ◌∷◌, ◌++◌, length, map, take, drop, Some, None, refl, sym, ◌∙◌, ap, subst, arith, append-nil, length-append}
 use Rattle.std.specs.Prelude.{◌^◌, Option, IfSome, IsSomeAnd, fold, slice_get}
 use Rattle.std.specs.List.{flat_map}
 use Rattle.std.specs.FinMap as globals
@@ -25,7 +25,9 @@ use Rattle.journal_defs.specs.Instance.{InstanceRecord, generation, regions}
 use Rattle.journal_defs.specs.Directory.{Pattern, patterns}
 use Rattle.journal_defs.specs.Surviving.{reigns}
 use Rattle.journal_defs.specs.Sequence.{Records, entry_with}
-use Rattle.journal_defs.specs.Growth.{AreEntries, tcoms, AreNumbered}
+use Rattle.journal_defs.specs.Growth.{AreEntries, AreNumbered, with_more}
+use Rattle.journal_defs.specs.Epochs.{chosen, block_of}
+use Rattle.journal_defs.specs.Stands.{in_generation}
 use Rattle.journal_defs.specs.Split.{split, mask_of, IsSplit}
 use Rattle.journal_defs.specs.Fit.{IsSoundImage, HasFewNodes, region_of_update}
 use Rattle.journal_laws.proofs.Appending.{journal_same}
@@ -39,7 +41,7 @@ use Rattle.region_journals.specs.declared.journals.RegionJournal.{RegionJournal}
 use Rattle.region_journals.specs.Fronts.{IsNewestFile, HasFirst}
 use Rattle.region_journals.specs.declared.journals.RegionJournals.{RegionJournals}
 use Rattle.region_journals.specs.Journals.{AreReady, KeepsJournals, ArePrepared, part_in, listed}
-use Rattle.region_journals.proofs.Waiting.{tcoms_more}
+use Rattle.block_laws.specs.Several.{MayAppendAll}
 use Rattle.site_defs.specs.Contents.{Contents, NO_LEFTOVER}
 use Rattle.site_defs.specs.Behind.{parts_of_each}
 use Rattle.site_defs.specs.Fronts.{with_sequence}
@@ -48,7 +50,8 @@ use Rattle.site_store.specs.declared.site.OpenSite.{OpenSite}
 use Rattle.site_store.specs.Finding.{HasLayout}
 use Rattle.site_regions.specs.Joined.{joined, AreChanged}
 use Rattle.site_store.specs.Site.{Remembers, IsReady, AreHeld, Keeps, IsOpen, HasReign, HasRoomFor, AreOnBlocks, with_entry, count_of}
-use Rattle.site_store.proofs.OnBlocks.{on_same}
+use Rattle.site_store.proofs.OnBlocks.{on_same, on_more, part_plain}
+use Rattle.site_store.proofs.Waiting as waiting
 use Rattle.site_store.proofs.HeldRegions.{held_stays, held_changed, no_journal, synced_stays}
 use Rattle.site_store.specs.Committing.{IsSameSite, IsSameMemory, IsOwnJournal, ArePartsOf, parts_of, AddsPlaces, IsSameIndex}
 use Rattle.site_store.proofs.Frames as frames
@@ -127,7 +130,7 @@ keeps_prepared v w c h old mid p lawful k =
     keeps_images v w c h old mid k lawful (still v w (IsOwnJournal old) p.stays (told_of v c h old k)) (λ f now. holds_now v w (Image v) lawful p.moments f now)
     (subst (λ (i : Instance). instances.HasRecords w i c.instance) (sym p.same.instance)
     (frames.records_stay v w (IsOwnJournal old) old.instance p.stays (no_instance (generation old.instance.records) (length (regions old.instance.records))) c.instance k.instance_file))
-    (p.state k.newer (tcoms k.waiting) k.journal_files) p.changed p.entries
+    (p.state k.newer k.waits k.journal_files) p.changed p.entries
 
 pub open_prepared : (v w : View) (told : Bool) (c : Contents) (h : ℕ) (old mid : OpenSite) → Prepares v w old mid → IsSameMemory old mid → IsLawful w → IsOpen v told c h old → IsOpen w told c h mid
 open_prepared v w told c h old mid p same lawful is = record {
@@ -150,15 +153,15 @@ AppendMoments w x js = (g : ℕ) (hard waiting : ℕ → List JournalRecord) →
 own_records : (v w : View) (c : Contents) (h : ℕ) (old mid : OpenSite) → Prepares v w old mid → Remembers c h old → mid.instance.records ≡ c.instance
 own_records v w c h old mid p m = ap (λ (i : Instance). i.records) p.same.instance ∙ m.instance
 
-append_run : (w x : View) (c : Contents) (h : ℕ) (mid : OpenSite) (k : Keeps w c h mid) → IsReady w mid → mid.instance.records ≡ c.instance → AppendMoments w x mid.journals.journals.items
-    → AtEachMoment w x (OnlyIn w (IsNewestFile (suc k.g) (length (regions c.instance))) (HasFirst (suc k.g) (length (regions c.instance)) k.newer (tcoms k.waiting) (λ r. 0)))
+pub append_run : (w x : View) (c : Contents) (h : ℕ) (mid : OpenSite) (k : Keeps w c h mid) → IsReady w mid → mid.instance.records ≡ c.instance → AppendMoments w x mid.journals.journals.items
+    → AtEachMoment w x (OnlyIn w (IsNewestFile (suc k.g) (length (regions c.instance))) (HasFirst (suc k.g) (length (regions c.instance)) k.newer k.waits (λ r. 0)))
 append_run w x c h mid k ready own run =
-    subst (λ (n : ℕ). AtEachMoment w x (OnlyIn w (IsNewestFile (suc k.g) n) (HasFirst (suc k.g) n k.newer (tcoms k.waiting) (λ r. 0)))) (newest.count w c h mid k ready own)
-    (run (suc k.g) k.newer (tcoms k.waiting) (newest.are_ready w c h mid k ready own) k.journal_files)
+    subst (λ (n : ℕ). AtEachMoment w x (OnlyIn w (IsNewestFile (suc k.g) n) (HasFirst (suc k.g) n k.newer k.waits (λ r. 0)))) (newest.count w c h mid k ready own)
+    (run (suc k.g) k.newer k.waits (newest.are_ready w c h mid k ready own) k.journal_files)
 
-append_moments : (w x : View) (c : Contents) (h : ℕ) (mid : OpenSite) → Keeps w c h mid → IsReady w mid → mid.instance.records ≡ c.instance → AppendMoments w x mid.journals.journals.items → AtEachMoment w x (λ f. IsSite f (with_sequence c (take h c.sequence)))
+pub append_moments : (w x : View) (c : Contents) (h : ℕ) (mid : OpenSite) → Keeps w c h mid → IsReady w mid → mid.instance.records ≡ c.instance → AppendMoments w x mid.journals.journals.items → AtEachMoment w x (λ f. IsSite f (with_sequence c (take h c.sequence)))
 append_moments w x c h mid k ready own run =
-    weaker w x (OnlyIn w (IsNewestFile (suc k.g) (length (regions c.instance))) (HasFirst (suc k.g) (length (regions c.instance)) k.newer (tcoms k.waiting) (λ r. 0))) (λ f. IsSite f (with_sequence c (take h c.sequence)))
+    weaker w x (OnlyIn w (IsNewestFile (suc k.g) (length (regions c.instance))) (HasFirst (suc k.g) (length (regions c.instance)) k.newer k.waits (λ r. 0))) (λ f. IsSite f (with_sequence c (take h c.sequence)))
     (λ f q. newest.none_site w c h mid k ready own q.others.0 f q.others.1 q.others.2 q.here) (append_run w x c h mid k ready own run)
 
 -- through both
@@ -174,9 +177,9 @@ IsBare c h f = HasLeft f (with_sequence c (take h c.sequence)) NO_LEFTOVER
 pub prepare_bare : (v w : View) (c : Contents) (h : ℕ) (old : OpenSite) → AtEachMoment v w (Image v) → IsOpen v true c h old → AtEachMoment v w (IsBare c h)
 prepare_bare v w c h old run is = weaker v w (Image v) (IsBare c h) (λ f was. none_left v c h old f (is.kept refl) was) run
 
-append_bare : (w x : View) (c : Contents) (h : ℕ) (mid : OpenSite) → Keeps w c h mid → IsReady w mid → mid.instance.records ≡ c.instance → AppendMoments w x mid.journals.journals.items → AtEachMoment w x (IsBare c h)
+pub append_bare : (w x : View) (c : Contents) (h : ℕ) (mid : OpenSite) → Keeps w c h mid → IsReady w mid → mid.instance.records ≡ c.instance → AppendMoments w x mid.journals.journals.items → AtEachMoment w x (IsBare c h)
 append_bare w x c h mid k ready own run =
-    weaker w x (OnlyIn w (IsNewestFile (suc k.g) (length (regions c.instance))) (HasFirst (suc k.g) (length (regions c.instance)) k.newer (tcoms k.waiting) (λ r. 0))) (IsBare c h)
+    weaker w x (OnlyIn w (IsNewestFile (suc k.g) (length (regions c.instance))) (HasFirst (suc k.g) (length (regions c.instance)) k.newer k.waits (λ r. 0))) (IsBare c h)
     (λ f q. newest.none_behind w c h mid k ready own q.others.0 f q.others.1 q.others.2 q.here) (append_run w x c h mid k ready own run)
 
 pub commit_bare : (v w x : View) (c : Contents) (h : ℕ) (old mid : OpenSite) → IsLawful w → Prepares v w old mid → AppendMoments w x mid.journals.journals.items → IsOpen v true c h old → AtEachMoment v x (IsBare c h)
@@ -287,15 +290,15 @@ are_own v c h s t parts ready m are =
     }
 
 -- the records that wait then
-waits_longer : (x : View) (hard : ℕ → List JournalRecord) (ps : List (ℕ → Option Part)) (part : ℕ → Option Part) (parts : PartRecords) (js : List RegionJournal) → length js ≤ 8 → ((r : ℕ) → r < 8 → part_in parts r ≡ recorded (part r))
-    → KeepsJournals x hard (λ r. tcoms ps r ++ listed (part_in parts r)) js → KeepsJournals x hard (tcoms (ps ++ part ∷ [])) js
-waits_longer x hard ps part parts js few each kept = record {
+waits_longer : (x : View) (hard waits : ℕ → List JournalRecord) (part : ℕ → Option Part) (parts : PartRecords) (js : List RegionJournal) → length js ≤ 8 → ((r : ℕ) → r < 8 → part_in parts r ≡ recorded (part r))
+    → KeepsJournals x hard (λ r. waits r ++ listed (part_in parts r)) js → KeepsJournals x hard (λ r. waits r ++ listed (recorded (part r))) js
+waits_longer x hard waits part parts js few each kept = record {
   has = λ r y is. subst (λ (l : List JournalRecord). journals.HasRecords x y.journal (record { hard = hard r; opening = []; closed = l })) (sym (more r y is)) (kept.has r y is);
   none_waits = λ r y is none. more r y is ∙ kept.none_waits r y is none;
 }
   where
-    more : (r : ℕ) (y : RegionJournal) → slice_get js r ≡ Some y → tcoms (ps ++ part ∷ []) r ≡ tcoms ps r ++ listed (part_in parts r)
-    more r y is = tcoms_more ps part parts r (each r (let there = slice_get_within js r y is in omega (arith, there, few)))
+    more : (r : ℕ) (y : RegionJournal) → slice_get js r ≡ Some y → waits r ++ listed (recorded (part r)) ≡ waits r ++ listed (part_in parts r)
+    more r y is = ap (λ (o : Option JournalRecord). waits r ++ listed o) (sym (each r (let there = slice_get_within js r y is in omega (arith, there, few))))
 
 pub instance_kept : (w x : View) (mid new : OpenSite) (g n : ℕ) (rs : List InstanceRecord) → OthersStay (IsNewestFile g n) w x → new.instance ≡ mid.instance → instances.HasRecords w mid.instance rs → instances.HasRecords x new.instance rs
 instance_kept w x mid new g n rs stays same has =
@@ -312,7 +315,7 @@ keeps_longer v w x c h old mid new t parts p before m lawful lawful_after =
     let under : stamp_at (count_of old + 1) (reigns c.instance) ≡ Some (stamp_value p.stamp) = stamp_of c h old p.stamp m p.reign p.under in
     let last : count_of old + 1 ≡ suc (length c.sequence) = (let count = m.count in omega (arith, count)) in
     let in_newest = append_run w x c h mid k ready own p.moments in
-    let q = holds_now w x (OnlyIn w (IsNewestFile (suc k.g) (length (regions c.instance))) (HasFirst (suc k.g) (length (regions c.instance)) k.newer (tcoms k.waiting) (λ r. 0))) lawful_after in_newest in
+    let q = holds_now w x (OnlyIn w (IsNewestFile (suc k.g) (length (regions c.instance))) (HasFirst (suc k.g) (length (regions c.instance)) k.newer k.waits (λ r. 0))) lawful_after in_newest in
     let stays = p.stays (suc k.g) (newest.are_ready w c h mid k ready own) in
     let few = newest.few w c h mid k ready own in
     let site : (f : Files) → Image x f → IsSite f (with_sequence c (take h c.sequence)) = λ f now. newest.none_site w c h mid k ready own (q f now).others.0 f (q f now).others.1 (q f now).others.2 (q f now).here in
@@ -329,6 +332,7 @@ keeps_longer v w x c h old mid new t parts p before m lawful lawful_after =
       last = k.last;
       older = k.older;
       newer = k.newer;
+      waits = λ r. k.waits r ++ listed (recorded (part r));
       newest = record { generation = k.newest.generation; not_last = k.newest.not_last; instance = k.newest.instance; whole = k.newest.whole; begins = k.newest.begins; begun = k.newest.begun };
       sound = λ f now. subst (IsSoundImage f k.records) front (subst (λ (u : Records). IsSoundImage f u (take h c.sequence)) (sym (newest.is_base w c h mid k ready own))
           (newest.none_image w c h mid k ready own (q f now).others.0 f (q f now).others.1 (q f now).others.2 (q f now).here));
@@ -337,7 +341,11 @@ keeps_longer v w x c h old mid new t parts p before m lawful lawful_after =
       older_stand = λ f now r here.
           stand_same (q f now).others.0 f r k.g (k.older r) (λ n le. (q f now).others.2 (journal_file n r) (λ i. omega (arith, i.is, i.inside, le, here, few))) (k.older_stand (q f now).others.0 (q f now).others.1 r here);
       none_past = k.none_past;
-      blocks = λ f now. subst (AreOnBlocks f k.records h) (sym p.globals) (on_same (q f now).others.0 f k.records h mid.globals (λ r here. (q f now).others.2 (database_file r) (λ i. omega (arith, i.is, i.inside, here, few, many))) (k.blocks (q f now).others.0 (q f now).others.1));
+      blocks = λ f now. subst (AreOnBlocks f (with_more k.records (λ r. map (in_generation (suc k.g)) (k.waits r ++ listed (recorded (part r))))) h) (sym p.globals)
+          (on_same (q f now).others.0 f (with_more k.records (λ r. map (in_generation (suc k.g)) (k.waits r ++ listed (recorded (part r))))) h mid.globals (λ r here. (q f now).others.2 (database_file r) (λ i. omega (arith, i.is, i.inside, here, few, many)))
+          (on_more (q f now).others.0 (with_more k.records (λ r. map (in_generation (suc k.g)) (k.waits r))) (with_more k.records (λ r. map (in_generation (suc k.g)) (k.waits r ++ listed (recorded (part r))))) h mid.globals
+          (λ r. map (in_generation (suc k.g)) (listed (recorded (part r)))) refl (λ r here. waiting.more_behind (suc k.g) (k.records.journal r) (k.waits r) (listed (recorded (part r)))) (λ r here. part_plain k.records.instance h (suc k.g) (part r))
+          (k.blocks (q f now).others.0 (q f now).others.1)));
       databases = synced_stays w x (IsNewestFile (suc k.g) (length (regions c.instance))) (length (regions c.instance)) (λ f now. (q f now).others) (no_journal (suc k.g) (length (regions c.instance)) (length (regions c.instance)) few) k.databases;
       no_epoch_past = k.no_epoch_past;
       waiting = k.waiting ++ part ∷ [];
@@ -348,7 +356,15 @@ keeps_longer v w x c h old mid new t parts p before m lawful lawful_after =
           ∙ sym (parts_more (patterns c.instance) h (count_of old + 1) (drop h c.sequence) e (number_of c h old m k.count))
           ∙ ap (parts_of_each (patterns c.instance) h) (sym (drop-append-le h c.sequence (e ∷ []) k.count));
       in_regions = all_both (λ (part : ℕ → Option Part). (r : ℕ) → length (regions c.instance) ≤ r → part r ≡ None) k.waiting (part ∷ []) k.in_regions (are.no_other, tt);
-      at_home = λ r here. entries.all_home c.instance (suc k.g) r (count_of old + 1) (mask_of (region_in c) t.updates) (transaction_value t) k.waiting (k.at_home r here);
+      are_waits = waiting.part_waits c.instance (suc k.g) k.waiting k.waits part k.are_waits are.no_other
+          (λ r here. waiting.home_listed c.instance (suc k.g) r (count_of old + 1) (mask_of (region_in c) t.updates) (transaction_value t) (part r) refl);
+      may_append = λ f now r here.
+          let e = chosen c.instance h (k.records.journal r) in
+          let d = (q f now).others in
+          let same : f (database_file r) ≡ d.0 (database_file r) = d.2 (database_file r) (λ i. omega (arith, i.is, i.inside, here, few)) in
+          waiting.may_both e (block_of (f (database_file r))) (suc k.g) (k.waits r) (listed (recorded (part r)))
+          (subst (λ (bytes : List ℕ). MayAppendAll e (block_of bytes) (map (in_generation (suc k.g)) (k.waits r))) (sym same) (k.may_append d.0 d.1 r here))
+          (waiting.may_part e (block_of (f (database_file r))) (suc k.g) (part r));
       indexed =
           let image = one_image w w.content (λ files. IsSite files (with_sequence c (take h c.sequence))) k.reads lawful.as_read in
           let mask = mask_of (region_in c) t.updates in
@@ -356,7 +372,7 @@ keeps_longer v w x c h old mid new t parts p before m lawful lawful_after =
           (subst (λ (n : ℕ). AreNumbered n part) last (merging.numbers (region_in c) (count_of old + 1) mask (transaction_value t)))
           (subst (λ (n : ℕ). entry_with part (stamp_at n (reigns c.instance)) ≡ Some e) last (entries.split_entry (reigns c.instance) (count_of old + 1) (region_in c) mask (transaction_value t) (stamp_value p.stamp) are.is_split under));
       instance_file = instance_kept w x mid new (suc k.g) (length mid.journals.journals.items) c.instance stays p.instance k.instance_file;
-      journal_files = waits_longer x k.newer k.waiting part parts new.journals.journals.items (let size = p.count in let low = ready.journals.few in omega (arith, size, low)) are.each (p.state k.newer (tcoms k.waiting) k.journal_files);
+      journal_files = waits_longer x k.newer k.waits part parts new.journals.journals.items (let size = p.count in let low = ready.journals.few in omega (arith, size, low)) are.each (p.state k.newer k.waits k.journal_files);
     }
 
 with_entry_is : (o : Option code_stamp.Stamp) (stamp : code_stamp.Stamp) (t : Transaction) (c : Contents) → o ≡ Some stamp → with_entry o t c ≡ longer c (record { stamp = stamp_value stamp; transaction = t })
@@ -371,10 +387,10 @@ open_longer v w x told c h old mid new t parts p lawful lawful_after is =
     })
 
 -- open for calls, and under its reign
-pub ready_after : (w x : View) (mid new : OpenSite) → IsReady w mid → ((g : ℕ) → AreReady w g mid.journals.journals.items → AreReady x g new.journals.journals.items) → length new.journals.journals.items ≡ length mid.journals.journals.items
+pub ready_by : (w x : View) (mid new : OpenSite) → IsReady w mid → ((g : ℕ) → AreReady w g mid.journals.journals.items → AreReady x g new.journals.journals.items) → length new.journals.journals.items ≡ length mid.journals.journals.items
     → ((g : ℕ) → AreReady w g mid.journals.journals.items → OthersStay (IsNewestFile g (length mid.journals.journals.items)) w x) → new.instance ≡ mid.instance → new.layout ≡ mid.layout
-    → AreChanged mid.globals new.globals → count_of new < 2 ^ 40 → IsWhole new.entries → new.entries.regions ≡ mid.entries.regions → IsReady x new
-ready_after w x mid new ready journals count stays instance layout changed few whole wide =
+    → AreHeld w (length (regions mid.instance.records)) new.globals → count_of new < 2 ^ 40 → IsWhole new.entries → new.entries.regions ≡ mid.entries.regions → IsReady x new
+ready_by w x mid new ready journals count stays instance layout held few whole wide =
     let g = generation mid.instance.records in
     let many = length (regions mid.instance.records) in
     let low = ready.journals.few in
@@ -385,13 +401,18 @@ ready_after w x mid new ready journals count stays instance layout changed few w
       journals = subst (λ (i : Instance). AreReady x (generation i.records) new.journals.journals.items) (sym instance) (journals g ready.journals);
       each_region = count ∙ ready.each_region ∙ ap (λ (i : Instance). length (regions i.records)) (sym instance);
       regions = subst (λ (i : Instance). AreHeld x (length (regions i.records)) new.globals) (sym instance)
-          (held_changed x many mid.globals new.globals changed
-          (held_stays w x (IsNewestFile g (length mid.journals.journals.items)) many mid.globals (stays g ready.journals) (no_journal g (length mid.journals.journals.items) many (omega (arith, low, same))) ready.regions));
+          (held_stays w x (IsNewestFile g (length mid.journals.journals.items)) many new.globals (stays g ready.journals) (no_journal g (length mid.journals.journals.items) many (omega (arith, low, same))) held);
       few = few;
       whole = whole;
       some_place = subst (λ (n : ℕ). 1 ≤ n) (sym wide) ready.some_place;
       each_place = wide ∙ ready.each_place ∙ ap (λ (i : Instance). length (regions i.records)) (sym instance);
     }
+
+pub ready_after : (w x : View) (mid new : OpenSite) → IsReady w mid → ((g : ℕ) → AreReady w g mid.journals.journals.items → AreReady x g new.journals.journals.items) → length new.journals.journals.items ≡ length mid.journals.journals.items
+    → ((g : ℕ) → AreReady w g mid.journals.journals.items → OthersStay (IsNewestFile g (length mid.journals.journals.items)) w x) → new.instance ≡ mid.instance → new.layout ≡ mid.layout
+    → AreChanged mid.globals new.globals → count_of new < 2 ^ 40 → IsWhole new.entries → new.entries.regions ≡ mid.entries.regions → IsReady x new
+ready_after w x mid new ready journals count stays instance layout changed few whole wide =
+    ready_by w x mid new ready journals count stays instance layout (held_changed w (length (regions mid.instance.records)) mid.globals new.globals changed ready.regions) few whole wide
 
 pub reign_stays : (old new : OpenSite) → HasReign old → new.instance ≡ old.instance → new.stamp ≡ old.stamp → count_of old ≤ count_of new → HasReign new
 reign_stays old new r instance stamp more = record {

@@ -1,21 +1,16 @@
 -- The parts of one more entry.
-use Rattle.std.proofs.Common.{◌≡◌, ◌≤◌, ◌+◌, ℕ, true, List, [], ◌∷◌, ◌++◌, length, Some, None, refl, sym, ◌∙◌, ap, subst, arith, append_assoc, append-nil}
+use Rattle.std.proofs.Common.{◌≡◌, ◌≤◌, ◌+◌, ℕ, true, List, [], ◌∷◌, ◌++◌, length, Some, refl, ◌∙◌, ap, subst, arith}
 use Rattle.std.specs.Prelude.{Option, nat_le}
-use Rattle.std.specs.List.{AllByRecursion}
 use Rattle.std.proofs.lemmas.Bool.Decides.{nat_tests}
 use Rattle.global_defs.specs.Entry.{Update, Transaction, Stamp, Reign, Entry, Sequence}
 use Rattle.global_defs.specs.Prefix.{stamp_at}
 use Rattle.journal_defs.specs.Journal.{Part}
 use Rattle.journal_defs.specs.Instance.{InstanceRecord, Create, Reigned, Cut, Map, Mode, generation}
-use Rattle.journal_defs.specs.Directory.{patterns}
 use Rattle.journal_defs.specs.Surviving.{survives, reigns}
-use Rattle.journal_defs.specs.Sequence.{Placed, entry_with}
-use Rattle.journal_defs.specs.Growth.{AreNumbered, AreTidy, AreEntries, placed, appended}
+use Rattle.journal_defs.specs.Sequence.{entry_with}
+use Rattle.journal_defs.specs.Growth.{AreNumbered, AreTidy, AreEntries}
 use Rattle.journal_defs.specs.Split.{split, IsSplit}
-use Rattle.journal_defs.specs.Fit.{IsAtHome, region_of_update}
-use Rattle.journal_laws.proofs.ImageSteps.{all_both}
 use Rattle.journal_laws.proofs.Merging as merging
-use Rattle.journal_laws.proofs.PartForms as forms
 
 -- in the newest generation everything survives
 pub survives_newest : (instance : List InstanceRecord) (g n : ℕ) → generation instance ≤ g → survives instance g n ≡ true
@@ -47,19 +42,3 @@ pub entries_more : (instance : List InstanceRecord) (g n m : ℕ) (ps : List (�
 entries_more instance g n m ps es region mask t stamp are is low divided under =
     entries_longer instance g n m ps es (split region m mask t) (record { stamp = stamp; transaction = t }) are is (merging.numbers region m mask t) (merging.tidy region m mask t divided) (survives_newest instance g m low)
     (split_entry (reigns instance) m region mask t stamp divided under)
-
--- what they append
-pub appended_more : (g : ℕ) (ps : List (ℕ → Option Part)) (p : ℕ → Option Part) (r : ℕ) → appended g (ps ++ p ∷ []) r ≡ appended g ps r ++ placed g (p r)
-appended_more g [] p r = append-nil (placed g (p r))
-appended_more g (q ∷ ps) p r = ap (λ (l : List Placed). placed g (q r) ++ l) (appended_more g ps p r) ∙ sym (append_assoc (placed g (q r)) (appended g ps r) (placed g (p r)))
-
--- each of its items stands in the region of its name
-home_more : (instance : List InstanceRecord) (g r n mask : ℕ) (t : Transaction) (o : Option Part) → split (region_of_update (patterns instance)) n mask t r ≡ o → AllByRecursion (λ (p : Placed). IsAtHome instance r p.generation p.what) (placed g o)
-home_more instance g r n mask t None is = tt
-home_more instance g r n mask t (Some x) is = (λ lives. forms.at_home (region_of_update (patterns instance)) n mask t r x is, tt)
-
-pub all_home : (instance : List InstanceRecord) (g r n mask : ℕ) (t : Transaction) (ps : List (ℕ → Option Part)) → AllByRecursion (λ (p : Placed). IsAtHome instance r p.generation p.what) (appended g ps r)
-    → AllByRecursion (λ (p : Placed). IsAtHome instance r p.generation p.what) (appended g (ps ++ split (region_of_update (patterns instance)) n mask t ∷ []) r)
-all_home instance g r n mask t ps home =
-    subst (AllByRecursion (λ (p : Placed). IsAtHome instance r p.generation p.what)) (sym (appended_more g ps (split (region_of_update (patterns instance)) n mask t) r))
-    (all_both (λ (p : Placed). IsAtHome instance r p.generation p.what) (appended g ps r) (placed g (split (region_of_update (patterns instance)) n mask t r)) home (home_more instance g r n mask t (split (region_of_update (patterns instance)) n mask t r) refl))

@@ -1,5 +1,5 @@
 -- The error of a call below, handed on.
-use Rattle.std.proofs.Common.{◌≡◌, ◌⊎◌, inl, inr, ℕ, Result, Ok, Err, IsErrOf, OnErr, ap}
+use Rattle.std.proofs.Common.{◌≡◌, ◌⊎◌, inl, inr, ℕ, Result, Ok, Err, IsErrOf, IsOk, OnOk, OnErr, ap}
 use Rattle.site_files.specs.declared.error.FilesError.{FilesError}
 use Rattle.site_files.specs.declared.error.FilesError.TheVariants as files
 use Rattle.site_store.specs.declared.error.SiteError.{SiteError}
@@ -100,3 +100,27 @@ index_file_was fault (index.NotAFile f o) file offset is =
     let two : o ≡ offset = cc is in
     λ i. Err (index.NotAFile (one i) (two i))
 index_file_was fault index.NoMemory file offset is = absurd (cc is)
+
+-- what holds of a result
+pub on_ok : {T E : Type 0} (result : Result T E) (P Q : Type 0) → OnOk result P → (P → Q) → OnOk result Q
+on_ok (Ok x) P Q p k = k p
+on_ok (Err e) P Q p k = tt
+
+pub on_err : {T E : Type 0} (result : Result T E) (P : Type 0) → P → OnErr result P
+on_err (Ok x) P p = tt
+on_err (Err e) P p = p
+
+pub of_err : {T E : Type 0} (result : Result T E) (P : Type 0) (e : E) → OnErr result P → IsErrOf result e → P
+of_err (Ok x) P e p is = absurd (cc is)
+of_err (Err d) P e p is = p
+
+-- what holds of an epoch that was taken, or of an image that was logged
+pub of_taken : {E F : Type 0} (taken : Result Unit E) (result : Result Unit F) (P Q : Type 0) → OnOk result (IsOk taken) → OnOk taken P → (P → Q) → OnOk result Q
+of_taken (Ok x) (Ok y) P Q done p k = k p
+of_taken (Err e) (Ok y) P Q done p k = absurd (cc done)
+of_taken taken (Err e) P Q done p k = tt
+
+pub of_each : {E F : Type 0} (taken : Result Unit E) (result : Result Unit F) (P Q R S T U : Type 0) → OnOk result (IsOk taken) → OnOk taken P → OnOk taken Q → OnOk taken R → OnOk taken S → OnOk taken T → (P → Q → R → S → T → U) → OnOk result U
+of_each (Ok x) (Ok y) P Q R S T U done p q r s t k = k p q r s t
+of_each (Err e) (Ok y) P Q R S T U done p q r s t k = absurd (cc done)
+of_each taken (Err e) P Q R S T U done p q r s t k = tt

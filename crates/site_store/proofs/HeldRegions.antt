@@ -1,5 +1,7 @@
 -- A site's regions stay open for calls while other files than their database files change.
-use Rattle.std.proofs.Common.{◌≡◌, inl, inr, ℕ, List, ◌≤◌, ◌<◌, sym, ◌∙◌, subst, arith, length}
+use Rattle.std.proofs.Common.{◌≡◌, inl, inr, ℕ, List, ◌≤◌, ◌<◌, refl, sym, ◌∙◌, ap, subst, arith, length}
+use Rattle.std.proofs.lemmas.Bool.{cases_lt}
+use Rattle.std.proofs.lemmas.List.{get_or_past}
 use Rattle.disk_defs.specs.Disk.{Files, View, Image, From, Reads}
 use Rattle.disk_defs.specs.Frames.{SameOutside, OthersStay, Only}
 use Rattle.disk_defs.proofs.Told.{reads_after, weaker_told}
@@ -8,9 +10,11 @@ use Rattle.journal_defs.specs.Instance.{InstanceRecord, regions}
 use Rattle.site_files.specs.Loading.{AreNext}
 use Rattle.journal_defs.specs.Numbers.{INSTANCE, database_file}
 use Rattle.region_journals.specs.Fronts.{IsNewestFile}
-use Rattle.region_store.specs.Region.{HoldsRegion, IsHeld, IsChanged}
-use Rattle.site_regions.specs.Joined.{Joined, AreChanged, region_at}
-use Rattle.site_regions.proofs.Making.{region_changed, changed_none}
+use Rattle.region_epochs.specs.Taken.{HasSameNodes}
+use Rattle.region_store.specs.Region.{Standing, HoldsRegion, IsHeld, IsChanged}
+use Rattle.site_regions.specs.Joined.{Joined, IsSameJoined, AreChanged, region_at, no_region}
+use Rattle.site_regions.proofs.Lists.{there}
+use Rattle.site_regions.proofs.Making.{region_changed, region_there, changed_none}
 use Rattle.site_store.specs.Site.{AreHeld, AreSynced}
 
 pub held_stays : (v w : View) (F : ℕ → Type 0) (n : ℕ) (j : Joined) → OthersStay F v w → ((r : ℕ) → r < n → F (database_file r) → ⊥) → AreHeld v n j → AreHeld w n j
@@ -65,3 +69,32 @@ synced_stays v w F n from apart was f d i j r here =
     let a = from f i in
     let b = from d j in
     b.2 (database_file r) (apart r here) ∙ was a.0 b.0 a.1 b.1 r here ∙ sym (a.2 (database_file r) (apart r here))
+
+-- the regions have the same nodes in the same files
+pub nodes_same : (old new : Joined) → IsSameJoined old new → HasSameNodes old new
+nodes_same old new same = record {
+  patterns = same.patterns;
+  count = same.count;
+  parts = same.parts;
+  files = λ r. elim (cases_lt r (length old.regions)) [
+    | inl low ↦
+        let count = same.count in
+        let x = there old.regions r low in
+        let y = there new.regions r (omega (arith, low, count)) in
+        ap (λ (s : Standing). s.file) (region_there new r y.0 y.1) ∙ (same.each r x.0 y.0 x.1 y.1).file ∙ sym (ap (λ (s : Standing). s.file) (region_there old r x.0 x.1))
+    | inr past ↦
+        let count = same.count in
+        ap (λ (s : Standing). s.file) (get_or_past new.regions r no_region (omega (arith, past, count)) ∙ sym (get_or_past old.regions r no_region past))
+  ];
+}
+
+pub nodes_kept : (j : Joined) → HasSameNodes j j
+nodes_kept j = record { patterns = refl; count = refl; parts = refl; files = λ r. refl }
+
+pub nodes_then : (a b c : Joined) → HasSameNodes a b → HasSameNodes b c → HasSameNodes a c
+nodes_then a b c first second = record {
+  patterns = second.patterns ∙ first.patterns;
+  count = second.count ∙ first.count;
+  parts = second.parts ∙ first.parts;
+  files = λ r. second.files r ∙ first.files r;
+}

@@ -17,6 +17,7 @@ pub mod Committed
 pub mod Hardened
 pub mod Fronted
 pub mod Marked
+pub mod Logged
 pub mod Errors
 pub mod Without
 pub mod Found

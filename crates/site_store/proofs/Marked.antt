@@ -1,9 +1,8 @@
 -- A site that is brought to an epoch.
-use Rattle.std.proofs.Common.{◌≡◌, ◌⊎◌, inl, inr, ℕ, suc, ◌≤◌, ◌<◌, Bool, true, List, [], ◌++◌, length, map, take, drop, Option, None, Some, refl, sym, ◌∙◌, ap, subst, arith, append_assoc, append-nil}
-use Rattle.std.specs.Prelude.{◌^◌, ◌==◌, ◌&&◌, false, nat_lt, IfSome, IsSome}
+use Rattle.std.proofs.Common.{◌≡◌, ◌⊎◌, inl, inr, ℕ, suc, ◌≤◌, ◌<◌, Bool, true, List, [], ◌++◌, length, map, take, None, Some, refl, sym, ◌∙◌, ap, subst, arith, append-nil}
+use Rattle.std.specs.Prelude.{◌^◌, ◌==◌, ◌&&◌, false, nat_lt, IfSome}
 use Rattle.std.specs.FinMap as globals
 use Rattle.std.proofs.lemmas.Bool.{cases_lt}
-use Rattle.std.proofs.lemmas.List.{map-append}
 use Rattle.std.proofs.lemmas.Bool.Decides.{nat_tests}
 use Rattle.std.proofs.Math.Path.{fun_ext}
 use Rattle.std.proofs.Math.Seq.{take-length, drop-length}
@@ -12,12 +11,12 @@ use Rattle.disk_defs.specs.Frames.{OthersStay, OnlyIn}
 use Rattle.disk_defs.proofs.Moments.{weaker, holds_now}
 use Rattle.global_defs.specs.Entry.{Globals, Sequence, state}
 use Rattle.journal_defs.specs.Numbers.{INSTANCE, journal_file}
-use Rattle.journal_defs.specs.Journal.{JournalRecord, Part}
+use Rattle.journal_defs.specs.Journal.{JournalRecord}
 use Rattle.journal_defs.specs.Instance.{InstanceRecord, generation, regions}
 use Rattle.journal_defs.specs.Directory.{Pattern, patterns, region_of}
 use Rattle.journal_defs.specs.Sequence.{Placed, Records}
 use Rattle.journal_defs.specs.Stands.{in_generation}
-use Rattle.journal_defs.specs.Growth.{AreEntries, tcoms, appended}
+use Rattle.journal_defs.specs.Growth.{AreEntries, with_more}
 use Rattle.journal_defs.specs.Epochs.{chosen, first_without}
 use Rattle.journal_defs.specs.Sound.{region_state, NoEpochPast}
 use Rattle.journal_defs.specs.Fit.{IsSoundImage}
@@ -44,10 +43,9 @@ use Rattle.site_defs.specs.Stands.{IsSite}
 use Rattle.site_defs.specs.Behind.{IsSiteWith}
 use Rattle.site_store.specs.declared.site.OpenSite.{OpenSite}
 use Rattle.site_store.specs.Needing.{without_behind, NoneNeeds}
-use Rattle.site_store.specs.Site.{Remembers, AreHeld, IsReady, AreOnBlocks, Keeps, IsOpen, count_of}
+use Rattle.site_store.specs.Site.{Remembers, AreHeld, IsReady, AreOnBlocks, Keeps, IsOpen, IsSettled, count_of}
 use Rattle.site_store.proofs.Frames as frames
-use Rattle.site_store.proofs.Standing.{reads_of, reads_so, told_of, still}
-use Rattle.site_store.proofs.Begun.{none_waiting}
+use Rattle.site_store.proofs.Standing.{reads_of, reads_so, told_of, still, read_image}
 use Rattle.site_store.proofs.Waiting as waiting
 use Rattle.site_store.proofs.Newest as newest
 use Rattle.site_store.proofs.Parts.{no_entry_no_part}
@@ -82,8 +80,8 @@ together_of v s ready =
       held = λ r here. ready.regions.held r (omega (arith, here, count));
     }
 
--- Before: an open site, all of whose entries are hardened.
-module _ (v : View) (c : Contents) (s : OpenSite) (k : Keeps v c (length c.sequence) s) (m : Remembers c (length c.sequence) s) (ready : IsReady v s) (are : AreJoined s.globals) (lawful : IsLawful v) where
+-- Before: an open site, all of whose entries are hardened, and in whose journals nothing waits.
+module _ (v : View) (c : Contents) (s : OpenSite) (k : Keeps v c (length c.sequence) s) (none : (r : ℕ) → k.waits r ≡ []) (m : Remembers c (length c.sequence) s) (ready : IsReady v s) (are : AreJoined s.globals) (lawful : IsLawful v) where
   own : s.instance.records ≡ c.instance
   own = m.instance
 
@@ -96,30 +94,28 @@ module _ (v : View) (c : Contents) (s : OpenSite) (k : Keeps v c (length c.seque
   pub sound : (f : Files) → Image v f → IsSoundImage f k.records c.sequence
   sound f now = subst (IsSoundImage f k.records) (take-length c.sequence) (k.sound f now)
 
-  nothing_waits : k.waiting ≡ []
-  nothing_waits = none_waiting c.instance (suc k.g) (length c.sequence) k.waiting (drop (length c.sequence) c.sequence) (drop-length c.sequence) k.are_waiting
+  nothing_waits : k.waits ≡ (λ r. [])
+  nothing_waits = fun_ext none
+
+  pub on_now : (f : Files) → Image v f → AreOnBlocks f k.records (length c.sequence) s.globals
+  on_now f now =
+      subst (λ (u : Records). AreOnBlocks f u (length c.sequence) s.globals)
+      (ap (λ (waits : ℕ → List JournalRecord). with_more k.records (λ r. map (in_generation (suc k.g)) (waits r))) nothing_waits ∙ waiting.none_more k.records) (k.blocks f now)
 
   -- the files as they read are an image
   read : (files : Files) × (v.content ≡ Some files) × Image v files
-  read = among v.content (told_of v c (length c.sequence) s k) lawful.as_read
-    where
-      among : (x : Option Files) → IsSome x → IfSome x (λ f. v.since v.moment f) → (files : Files) × (x ≡ Some files) × Image v files
-      among None told i = absurd (cc told)
-      among (Some files) told i = (files, refl, i)
+  read = read_image v lawful (told_of v c (length c.sequence) s k)
 
   each_sound : EachIsSound v k.records c.sequence k.g k.newer
   each_sound = record {
     images = sound;
-    newest = λ f now. subst (λ (u : Records). fronts.AreNewest f u k.g k.newer) (sym (newest.is_base v c (length c.sequence) s k ready own)) (newest_in f now);
+    newest = λ f now. subst (λ (u : Records). fronts.AreNewest f u k.g k.newer) (sym (newest.is_base v c (length c.sequence) s k ready own)) (newest.are_newest v c (length c.sequence) s k ready own f now);
     none_past = k.none_past;
     no_epoch_past = λ r here. subst (λ (l : List InstanceRecord). NoEpochPast (length c.sequence) l (k.records.journal r)) (sym k.newest.instance) (let same = many in k.no_epoch_past r (omega (arith, here, same)));
   }
-    where
-      newest_in : (f : Files) → Image v f → fronts.AreNewest f (newest.base v c (length c.sequence) s k ready own) k.g k.newer
-      newest_in f now = let x = newest.are_newest v c (length c.sequence) s k ready own f now in record { generation = x.generation; held = x.held; begun = x.begun }
 
   pub patterns_are : s.globals.patterns ≡ patterns k.records.instance
-  patterns_are = (k.blocks read.0 read.2).patterns
+  patterns_are = (on_now read.0 read.2).patterns
 
   part : (r : ℕ) → r < length s.globals.regions → (region_at s.globals r).globals ≡ region_state (patterns k.records.instance) r c.sequence
   part r low =
@@ -133,15 +129,15 @@ module _ (v : View) (c : Contents) (s : OpenSite) (k : Keeps v c (length c.seque
     told = read.1;
     sound = each_sound;
     ready = newest.are_ready v c (length c.sequence) s k ready own;
-    journals = subst (λ ps. KeepsJournals v k.newer (tcoms ps) s.journals.journals.items) nothing_waits k.journal_files;
+    journals = subst (λ (waits : ℕ → List JournalRecord). KeepsJournals v k.newer waits s.journals.journals.items) nothing_waits k.journal_files;
     as_many_journals = newest.count v c (length c.sequence) s k ready own ∙ sym many;
     as_many_regions = ready.regions.count ∙ ap (λ (l : List InstanceRecord). length (regions l)) (own ∙ sym k.newest.instance);
     each = λ r here.
         let same = many in
-        let on = (k.blocks read.0 read.2).each r here in
+        let on = (on_now read.0 read.2).each r here in
         record {
           file = on.file;
-          part = part r (let count = (k.blocks read.0 read.2).count in omega (arith, here, count));
+          part = part r (let count = (on_now read.0 read.2).count in omega (arith, here, count));
           durable = λ d now. k.databases read.0 d read.2 now r (omega (arith, here, same));
           held = on.held;
           holds = on.holds;
@@ -158,7 +154,7 @@ abbrev pub EpochTaken : View → View → Bool → OpenSite → OpenSite → Typ
 EpochTaken v w closing s new = (u : Records) (seq : Sequence) (g : ℕ) (newer : ℕ → List JournalRecord) → IsKept v u seq g newer s.journals.journals.items s.globals
     → length seq ≡ count_of s → IsTaken w closing u seq g newer new.journals.journals.items new.globals
 
-module _ (v w : View) (c : Contents) (s : OpenSite) (k : Keeps v c (length c.sequence) s) (mine : Remembers c (length c.sequence) s) (ready : IsReady v s) (are : AreJoined s.globals) (lawful : IsLawful v) (lawful_after : IsLawful w) where
+module _ (v w : View) (c : Contents) (s : OpenSite) (k : Keeps v c (length c.sequence) s) (none : (r : ℕ) → k.waits r ≡ []) (mine : Remembers c (length c.sequence) s) (ready : IsReady v s) (are : AreJoined s.globals) (lawful : IsLawful v) (lawful_after : IsLawful w) where
   few : length s.journals.journals.items ≤ 8
   few = ready.journals.few
 
@@ -175,15 +171,15 @@ module _ (v w : View) (c : Contents) (s : OpenSite) (k : Keeps v c (length c.seq
   at_most f q =
       let d = q.others.0 in
       let was = q.others.1 in
-      let is = site_now v c s k mine ready are lawful d was in
-      let held = (sound v c s k mine ready are lawful d was).held in (
+      let is = site_now v c s k none mine ready are lawful d was in
+      let held = (sound v c s k none mine ready are lawful d was).held in (
         fronted.may_mark d f c k.records q.here.0 k.g (length s.journals.journals.items) is held k.newest.instance k.newest.generation k.newest.not_last q.here.2 few q.others.2 q.here.1,
         fronted.may_mark_left d f c k.records q.here.0 k.g (length s.journals.journals.items) is held k.newest.instance k.newest.generation k.newest.not_last q.here.2 few q.others.2 q.here.1 k.none_past,
       )
 
   module _ (run : EpochMoments v w s) where
     moments : AtEachMoment v w Still
-    moments = run k.records c.sequence k.g k.newer (is_kept v c s k mine ready are lawful) count
+    moments = run k.records c.sequence k.g k.newer (is_kept v c s k none mine ready are lawful) count
 
     pub marks_moments : AtEachMoment v w (λ f. (x : Contents) × MayMark c x × IsSite f x)
     marks_moments = weaker v w Still (λ f. (x : Contents) × MayMark c x × IsSite f x) (λ f q. (at_most f q).0) moments
@@ -229,7 +225,7 @@ module _ (v w : View) (c : Contents) (s : OpenSite) (k : Keeps v c (length c.seq
         let from = stays.images f now in
         subst (λ (seq : Sequence). IsSite f (with_sequence (marked c) seq)) (sym (take-length c.sequence))
         (subst (IsSite f) all_taken
-        (fronted.site_marked from.0 f c k.records t.records k.g (length s.journals.journals.items) (site_now v c s k mine ready are lawful from.0 from.1) (sound v c s k mine ready are lawful from.0 from.1).held
+        (fronted.site_marked from.0 f c k.records t.records k.g (length s.journals.journals.items) (site_now v c s k none mine ready are lawful from.0 from.1) (sound v c s k none mine ready are lawful from.0 from.1).held
         k.newest.instance k.newest.generation k.newest.not_last more few from.2 (t.kept.sound.images f now)))
 
     instance_is : t.records.instance ≡ c.instance
@@ -243,7 +239,7 @@ module _ (v w : View) (c : Contents) (s : OpenSite) (k : Keeps v c (length c.seq
 
     on_all : (f : Files) → Image w f → AreOnBlocks f t.records (length c.sequence) new.globals
     on_all f now = on_same t.kept.files f t.records (length c.sequence) new.globals (λ r low. let e = count_is in (region_kept r (omega (arith, low, e))).durable f now) (record {
-      patterns = same.patterns ∙ patterns_are v c s k mine ready are lawful ∙ ap patterns (sym t.more.instance);
+      patterns = same.patterns ∙ patterns_are v c s k none mine ready are lawful ∙ ap patterns (sym t.more.instance);
       count = t.kept.as_many_regions;
       each = λ r low. let e = t.kept.each r low in record { file = e.file; held = e.held; holds = e.holds };
     })
@@ -254,12 +250,12 @@ module _ (v w : View) (c : Contents) (s : OpenSite) (k : Keeps v c (length c.seq
       | inr d ↦ (let at = d.is in let inside = d.inside in omega (arith, at, inside, low))
     ]
 
-    -- no entry waits, so images and marks stand right behind the records
-    marks_behind : (r : ℕ) → t.records.journal r ++ [] ≡ (k.records.journal r ++ appended (suc k.g) k.waiting r) ++ map (in_generation (suc k.g)) (t.more.more r)
+    -- nothing waits, so images and marks stand right behind the records
+    marks_behind : (r : ℕ) → t.records.journal r ++ [] ≡ (k.records.journal r ++ map (in_generation (suc k.g)) (k.waits r)) ++ map (in_generation (suc k.g)) (t.more.more r)
     marks_behind r =
-        let none : k.waiting ≡ [] = none_waiting c.instance (suc k.g) (length c.sequence) k.waiting (drop (length c.sequence) c.sequence) (drop-length c.sequence) k.are_waiting in
         append-nil (t.records.journal r) ∙ t.more.journal r
-        ∙ ap (λ (l : List Placed). l ++ map (in_generation (suc k.g)) (t.more.more r)) (sym (append-nil (k.records.journal r)) ∙ ap (λ (ps : List (ℕ → Option Part)). k.records.journal r ++ appended (suc k.g) ps r) (sym none))
+        ∙ ap (λ (l : List Placed). l ++ map (in_generation (suc k.g)) (t.more.more r))
+        (sym (append-nil (k.records.journal r)) ∙ ap (λ (l : List JournalRecord). k.records.journal r ++ map (in_generation (suc k.g)) l) (sym (none r)))
 
     pub keeps_taken : Keeps w (marked c) (length c.sequence) new
     keeps_taken = record {
@@ -272,13 +268,12 @@ module _ (v w : View) (c : Contents) (s : OpenSite) (k : Keeps v c (length c.seq
       last = k.last;
       older = k.older;
       newer = λ r. k.newer r ++ t.more.more r;
+      waits = λ r. [];
       newest = record {
         generation = k.newest.generation;
         not_last = k.newest.not_last;
         instance = instance_is;
-        whole = λ r here. t.more.journal r ∙ ap (λ (l : List Placed). l ++ map (in_generation (suc k.g)) (t.more.more r)) (k.newest.whole r here)
-            ∙ append_assoc (k.older r) (map (in_generation (suc k.g)) (k.newer r)) (map (in_generation (suc k.g)) (t.more.more r))
-            ∙ ap (λ (l : List Placed). k.older r ++ l) (sym (map-append (in_generation (suc k.g)) (k.newer r) (t.more.more r)));
+        whole = λ r here. t.more.journal r ∙ waiting.whole_more (suc k.g) (k.records.journal r) (k.older r) (k.newer r) (t.more.more r) (k.newest.whole r here);
         begins = λ r here. waiting.begins_more r (suc k.g) (k.last r) (k.newer r) (t.more.more r) (k.newest.begun r here) (k.newest.begins r here) (fronted.front_no_pini (length c.sequence) (t.more.more r) (t.more.each r));
         begun = λ r here. waiting.begun_more (k.newer r) (t.more.more r) (k.newest.begun r here);
       };
@@ -290,7 +285,7 @@ module _ (v w : View) (c : Contents) (s : OpenSite) (k : Keeps v c (length c.seq
           let from = stays.images f now in
           stand_same from.0 f r k.g (k.older r) (λ h le. from.2 (journal_file h r) (older_journal h r 0 le here (ready.each_region ∙ ap (λ (l : List InstanceRecord). length (regions l)) mine.instance))) (k.older_stand from.0 from.1 r here);
       none_past = t.kept.sound.none_past;
-      blocks = on_all;
+      blocks = λ f now. subst (λ (u : Records). AreOnBlocks f u (length c.sequence) new.globals) (sym (waiting.none_more t.records)) (on_all f now);
       databases = λ f d i j r here. (region_kept r here).durable d j ∙ sym ((region_kept r here).durable f i);
       no_epoch_past = λ r here. let e = count_is in subst (λ (l : List InstanceRecord). NoEpochPast (length c.sequence) l (t.records.journal r)) instance_is (t.kept.sound.no_epoch_past r (omega (arith, here, e)));
       waiting = [];
@@ -298,8 +293,9 @@ module _ (v w : View) (c : Contents) (s : OpenSite) (k : Keeps v c (length c.seq
       are_parts = no_entry_no_part (patterns c.instance) c.sequence;
       in_regions = tt;
       indexed = subst (λ (i : EntryIndex). IsIndexOf (λ r. t.records.journal r ++ []) (reigns c.instance) i c.sequence) (sym entries)
-          (index_behind (λ r. k.records.journal r ++ appended (suc k.g) k.waiting r) (λ r. t.records.journal r ++ []) (reigns c.instance) s.entries c.sequence (λ r low. (map (in_generation (suc k.g)) (t.more.more r), marks_behind r)) k.indexed);
-      at_home = λ r here. tt;
+          (index_behind (λ r. k.records.journal r ++ map (in_generation (suc k.g)) (k.waits r)) (λ r. t.records.journal r ++ []) (reigns c.instance) s.entries c.sequence (λ r low. (map (in_generation (suc k.g)) (t.more.more r), marks_behind r)) k.indexed);
+      are_waits = waiting.none_wait c.instance (suc k.g);
+      may_append = λ f now r here. tt;
       instance_file = subst (λ (i : Instance). instances.HasRecords w i c.instance) (sym instance) (frames.records_stay v w F s.instance stays (away_instance (suc k.g) (length s.journals.journals.items)) c.instance k.instance_file);
       journal_files = record { has = λ r y is. t.kept.journals.has r y is; none_waits = λ r y is none. refl };
     }
@@ -315,9 +311,9 @@ none_needs w closing s seq g newer js j t f now u held r here =
 
 pub open_taken : (v w : View) (told closing : Bool) (c : Contents) (s new : OpenSite) → IsReady v s → AreJoined s.globals → IsLawful v → IsLawful w → EpochTaken v w closing s new
     → ((g : ℕ) → AreReady v g s.journals.journals.items → OthersStay (IsEpochFile g (length s.journals.journals.items)) v w) → HasSameNodes s.globals new.globals
-    → new.instance ≡ s.instance → new.entries ≡ s.entries → new.hardened ≡ s.hardened → IsOpen v told c (length c.sequence) s → IsOpen w told (marked c) (length c.sequence) new
+    → new.instance ≡ s.instance → new.entries ≡ s.entries → new.hardened ≡ s.hardened → IsSettled v told c s → IsOpen w told (marked c) (length c.sequence) new
 open_taken v w told closing c s new ready are lawful lawful_after taken stays same instance entries hardened o =
-    let m = o.remembered in
+    let m = o.is.remembered in
     record {
       remembered = record {
         instance = ap (λ (i : Instance). i.records) instance ∙ m.instance;
@@ -326,8 +322,9 @@ open_taken v w told closing c s new ready are lawful lawful_after taken stays sa
         hardened = hardened ∙ m.hardened;
       };
       kept = λ known.
-          let k = o.kept known in
-          keeps_taken v w c s k m ready are lawful lawful_after closing new (taken k.records c.sequence k.g k.newer (is_kept v c s k m ready are lawful) (sym m.count))
+          let k = o.is.kept known in
+          let none = o.none_waits known in
+          keeps_taken v w c s k none m ready are lawful lawful_after closing new (taken k.records c.sequence k.g k.newer (is_kept v c s k none m ready are lawful) (sym m.count))
           (stays (suc k.g) (newest.are_ready v c (length c.sequence) s k ready m.instance)) same instance entries;
     }
 

@@ -1,5 +1,5 @@
 -- A site's regions stay on their blocks while its journals and its instance file gain records.
-use Rattle.std.proofs.Common.{◌≡◌, ◌⊎◌, inl, inr, ℕ, ◌<◌, Bool, true, false, List, [], ◌∷◌, ◌++◌, length, Option, None, refl, sym, ◌∙◌, ap, subst, arith, append-nil, append_assoc}
+use Rattle.std.proofs.Common.{◌≡◌, ◌⊎◌, inl, inr, ℕ, ◌<◌, Bool, true, false, List, [], ◌∷◌, ◌++◌, length, map, Option, Some, None, refl, sym, ◌∙◌, ap, subst, arith, append-nil, append_assoc}
 use Rattle.std.specs.Prelude.{IsSome, IfSome}
 use Rattle.std.specs.List.{AllByRecursion}
 use Rattle.disk_defs.specs.Disk.{Files, View}
@@ -8,7 +8,9 @@ use Rattle.journal_defs.specs.Journal.{Part}
 use Rattle.journal_defs.specs.Instance.{InstanceRecord, regions}
 use Rattle.journal_defs.specs.Directory.{patterns}
 use Rattle.journal_defs.specs.Sequence.{Placed, Records}
-use Rattle.journal_defs.specs.Growth.{appended}
+use Rattle.journal_defs.specs.Stands.{in_generation}
+use Rattle.region_journals.specs.Journals.{listed}
+use Rattle.tp_commit.specs.Parts.{recorded}
 use Rattle.journal_defs.specs.Epochs.{Chosen, chosen, epoch_in, image_in, first_without, NeedsForward}
 use Rattle.journal_defs.specs.Undo.{logged}
 use Rattle.journal_laws.proofs.Targets as targets
@@ -26,7 +28,6 @@ use Rattle.site_defs.specs.OutsideBlocks.{gone_back}
 use Rattle.site_store.specs.declared.preparing.FoundFiles.{FoundFiles}
 use Rattle.site_store.specs.Standing.{IfFound, found_signs}
 use Rattle.site_store.specs.Site.{IsOnBlocks, AreHeld, AreOnBlocks, AreOnFiles, StandOn}
-use Rattle.site_store.proofs.Newest.{all_parts}
 
 abbrev OnEpoch : List Placed → Chosen → List ℕ → Standing → Type 0
 OnEpoch journal e bytes x = IsSome (first_without journal e) ⊎ HoldsRegion e bytes x
@@ -135,9 +136,10 @@ on_more f s u n j more same is plain on = record {
       };
 }
 
--- the parts of entries
-pub parts_plain : (instance : List InstanceRecord) (n g : ℕ) (ps : List (ℕ → Option Part)) (r : ℕ) → AllByRecursion (IsPlain instance n) (appended g ps r)
-parts_plain instance n g ps r = all_parts (IsPlain instance n) g (λ x. ((λ b. refl), refl)) ps r
+-- a part of an entry
+pub part_plain : (instance : List InstanceRecord) (n g : ℕ) (o : Option Part) → AllByRecursion (IsPlain instance n) (map (in_generation g) (listed (recorded o)))
+part_plain instance n g None = tt
+part_plain instance n g (Some x) = (((λ b. refl), refl), tt)
 
 -- regions as they were opened, by what was found
 abbrev pub AreGoneBack : List InstanceRecord → List (List PlacedSign) → EntryIndex → ℕ → Joined → Files → Type 0

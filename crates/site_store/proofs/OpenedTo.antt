@@ -38,6 +38,7 @@ use Rattle.site_store.specs.Site.{Remembers, Keeps, IsOpen, AreOnBlocks, AreOnFi
 use Rattle.site_store.proofs.OnBlocks.{IsPlain, anew_or_not, held_same, on_same, on_more, on_chosen}
 use Rattle.site_store.proofs.Drawn.{S, C, cut_at, DrawsTo, newest_is, same_regions, site_read, site_drawn, newest_whole}
 use Rattle.site_store.proofs.Parts.{no_entry_no_part}
+use Rattle.site_store.proofs.Waiting.{none_more, none_wait}
 use Rattle.entry_index.specs.Among.{IsIndexOf}
 use Rattle.jnl_index.specs.Order.{StandUpTo}
 use Rattle.entry_index.proofs.AmongLaws.{index_behind}
@@ -193,6 +194,7 @@ module _ (anew : Bool) (v w : View) (rs : List InstanceRecord) (last : ℕ → �
           last = last;
           older = journal;
           newer = λ q. next_pini_as anew rs last q ∷ [];
+          waits = λ q. [];
           newest = record {
             generation = newest_is rs last journal seq form sequence t;
             not_last = (let room = form.room in omega (arith, room));
@@ -205,7 +207,7 @@ module _ (anew : Bool) (v w : View) (rs : List InstanceRecord) (last : ℕ → �
           older_files = λ f image q below. let from = drawn f image in keeping.older_still from.0 S0 last form f from.2.others (reads from.0 from.1) q (omega (arith, below, number));
           older_stand = λ f image q below. let from = drawn f image in let low : q < many = omega (arith, below, number) in stand_same from.0 f q (generation rs) (journal q) (older_same f from q low) (stand from.0 from.1 q low);
           none_past = keeping.none_past anew S0 t last before many;
-          blocks = λ f image. let q = drawn f image in blocks_drawn f q (on q.0 q.1);
+          blocks = λ f image. let q = drawn f image in subst (λ (u : Records). AreOnBlocks f u t s.globals) (sym (none_more drawn_all)) (blocks_drawn f q (on q.0 q.1));
           databases = λ f d i j q below.
               let low : q < many = omega (arith, below, number) in
               let from = drawn f i in
@@ -218,7 +220,8 @@ module _ (anew : Bool) (v w : View) (rs : List InstanceRecord) (last : ℕ → �
           in_regions = tt;
           indexed = index_behind journal (λ q. drawn_all.journal q ++ []) (reigns (rs ++ next_cut rs t ∷ [])) s.entries kept (λ q below. (starts_in_as anew rs last many q, append-nil (drawn_all.journal q)))
               (index_cut journal rs t (generation rs + 1) s.entries kept (omega (arith, size)) indexed);
-          at_home = λ q below. tt;
+          are_waits = none_wait (rs ++ next_cut rs t ∷ []) (suc (generation rs));
+          may_append = λ f image q below. tt;
           instance_file = instance;
           journal_files = keeps_journals has;
         }

@@ -1,11 +1,12 @@
 -- What an open site's images stand for, and what they still stand for once nothing but room has changed.
-use Rattle.std.proofs.Common.{ℕ, true, length, take, None, Some, subst, refl, suc, ◌++◌}
+use Rattle.std.proofs.Common.{◌≡◌, ℕ, true, length, map, take, None, Some, subst, refl, suc, ◌++◌}
 use Rattle.std.specs.Prelude.{Option, IfSome, IsSome, IsSomeAnd}
 use Rattle.std.proofs.Math.Seq.{take-length}
 use Rattle.disk_defs.specs.Disk.{Files, View, Image, IsLawful, ReadsAfter}
 use Rattle.disk_defs.specs.Frames.{SameOutside, OthersStay}
 use Rattle.disk_defs.proofs.Told.{weaker_told}
-use Rattle.journal_defs.specs.Growth.{tcoms, appended}
+use Rattle.journal_defs.specs.Growth.{with_more}
+use Rattle.journal_defs.specs.Stands.{in_generation}
 use Rattle.instance_file.specs.Instance as instances
 use Rattle.region_journals.specs.Journals.{KeepsJournals}
 use Rattle.site_defs.specs.Contents.{Contents}
@@ -49,9 +50,17 @@ still v w F stays told = among v.content w.content told stays.content
     among (Some a) None t h = absurd h
     among (Some a) (Some b) t h = refl
 
+-- the files as they read are an image
+pub read_image : (v : View) → IsLawful v → IsSome v.content → (files : Files) × (v.content ≡ Some files) × Image v files
+read_image v lawful told = among v.content told lawful.as_read
+  where
+    among : (o : Option Files) → IsSome o → IfSome o (λ f. v.since v.moment f) → (files : Files) × (o ≡ Some files) × Image v files
+    among None t i = absurd (cc t)
+    among (Some files) t i = (files, refl, i)
+
 -- where each image is one from before
 pub keeps_images : (v w : View) (c : Contents) (h : ℕ) (old new : OpenSite) (k : Keeps v c h old) → IsLawful w → IsSome w.content → ((f : Files) → Image w f → Image v f) → instances.HasRecords w new.instance c.instance
-    → KeepsJournals w k.newer (tcoms k.waiting) new.journals.journals.items → AreChanged old.globals new.globals → IsSameIndex old.entries new.entries → Keeps w c h new
+    → KeepsJournals w k.newer k.waits new.journals.journals.items → AreChanged old.globals new.globals → IsSameIndex old.entries new.entries → Keeps w c h new
 keeps_images v w c h old new k lawful told from instance journals changed entries = record {
   count = k.count;
   few_nodes = k.few_nodes;
@@ -62,20 +71,22 @@ keeps_images v w c h old new k lawful told from instance journals changed entrie
   last = k.last;
   older = k.older;
   newer = k.newer;
+  waits = k.waits;
   newest = k.newest;
   sound = λ f now. k.sound f (from f now);
   older_files = λ f now. k.older_files f (from f now);
   older_stand = λ f now. k.older_stand f (from f now);
   none_past = k.none_past;
-  blocks = λ f now. on_changed f k.records h old.globals new.globals changed (k.blocks f (from f now));
+  blocks = λ f now. on_changed f (with_more k.records (λ r. map (in_generation (suc k.g)) (k.waits r))) h old.globals new.globals changed (k.blocks f (from f now));
   databases = λ f d i j. k.databases f d (from f i) (from d j);
   no_epoch_past = k.no_epoch_past;
   waiting = k.waiting;
   are_waiting = k.are_waiting;
   are_parts = k.are_parts;
   in_regions = k.in_regions;
-  indexed = same_index old.entries new.entries entries (λ r. k.records.journal r ++ appended (suc k.g) k.waiting r) (reigns c.instance) c.sequence k.indexed;
-  at_home = k.at_home;
+  indexed = same_index old.entries new.entries entries (λ r. k.records.journal r ++ map (in_generation (suc k.g)) (k.waits r)) (reigns c.instance) c.sequence k.indexed;
+  are_waits = k.are_waits;
+  may_append = λ f now. k.may_append f (from f now);
   instance_file = instance;
   journal_files = journals;
 }

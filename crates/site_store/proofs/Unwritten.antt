@@ -1,5 +1,5 @@
 -- An open site after a call that reads.
-use Rattle.std.proofs.Common.{ℕ, Bool, List, [], take, None, Some, refl, sym, subst, length}
+use Rattle.std.proofs.Common.{ℕ, suc, Bool, List, [], map, take, None, Some, refl, sym, subst, length}
 use Rattle.std.specs.Prelude.{Option, IfSome, IsSomeAnd}
 use Rattle.disk_defs.specs.Disk.{Files, View, Image, Reads}
 use Rattle.gated_file.specs.State as gated
@@ -9,11 +9,13 @@ use Rattle.jnl_file.specs.Journal as journals
 use Rattle.jnl_file.specs.Journal.{HoldsRecords, HasRecords}
 use Rattle.jnl_file.specs.declared.journal.Journal.{Journal}
 use Rattle.jnl_file.proofs.Making.{ready_read}
-use Rattle.journal_defs.specs.Numbers.{INSTANCE}
+use Rattle.journal_defs.specs.Numbers.{INSTANCE, database_file}
+use Rattle.journal_defs.specs.Epochs.{chosen, block_of}
+use Rattle.block_laws.specs.Several.{MayAppendAll}
 use Rattle.journal_defs.specs.Instance.{InstanceRecord, generation, regions}
 use Rattle.journal_defs.specs.Journal.{JournalRecord}
-use Rattle.journal_defs.specs.Growth.{tcoms}
-use Rattle.journal_defs.specs.Stands.{IsInstance, IsJournal}
+use Rattle.journal_defs.specs.Growth.{with_more}
+use Rattle.journal_defs.specs.Stands.{IsInstance, IsJournal, in_generation}
 use Rattle.journal_defs.specs.Fit.{IsSoundImage}
 use Rattle.region_journals.specs.Journals.{AreReady, KeepsJournals}
 use Rattle.region_journals.specs.declared.journals.RegionJournal.{RegionJournal}
@@ -108,12 +110,13 @@ keeps_read v w c n s r h = record {
   last = h.last;
   older = h.older;
   newer = h.newer;
+  waits = h.waits;
   newest = h.newest;
   sound = image_read v w (λ f. IsSoundImage f h.records (take n c.sequence)) r h.sound;
   older_files = λ f i k here. let x = r.passes.images f i in subst (λ (y : Files). IsJournal y k h.g (h.last k) (h.older k)) (sym x.2) (h.older_files x.0 x.1 k here);
   older_stand = λ f i k here. let x = r.passes.images f i in subst (λ (y : Files). StandUpTo y k h.g (h.older k)) (sym x.2) (h.older_stand x.0 x.1 k here);
   none_past = h.none_past;
-  blocks = image_read v w (λ f. AreOnBlocks f h.records n s.globals) r h.blocks;
+  blocks = image_read v w (λ f. AreOnBlocks f (with_more h.records (λ k. map (in_generation (suc h.g)) (h.waits k))) n s.globals) r h.blocks;
   databases = synced_stays v w (λ f. ⊥) (length (regions c.instance)) (others_read (λ f. ⊥) v w r).images (λ q here no. no) h.databases;
   no_epoch_past = h.no_epoch_past;
   waiting = h.waiting;
@@ -121,9 +124,10 @@ keeps_read v w c n s r h = record {
   are_parts = h.are_parts;
   in_regions = h.in_regions;
   indexed = h.indexed;
-  at_home = h.at_home;
+  are_waits = h.are_waits;
+  may_append = λ f i k here. let x = r.passes.images f i in subst (λ (y : Files). MayAppendAll (chosen c.instance n (h.records.journal k)) (block_of (y (database_file k))) (map (in_generation (suc h.g)) (h.waits k))) (sym x.2) (h.may_append x.0 x.1 k here);
   instance_file = instance_has v w s.instance c.instance r h.instance_file;
-  journal_files = journals_kept v w h.newer (tcoms h.waiting) s.journals.journals.items r h.journal_files;
+  journal_files = journals_kept v w h.newer h.waits s.journals.journals.items r h.journal_files;
 }
 
 pub open_read : (v w : View) (told : Bool) (c : Contents) (n : ℕ) (s : OpenSite) → Reads v w → IsOpen v told c n s → IsOpen w told c n s

@@ -1,9 +1,9 @@
 -- Entries on their way into the journals.
-use Rattle.std.specs.Prelude.{◌≡◌, ◌+◌, ◌<◌, ◌≤◌, ℕ, List, ◌++◌, length, fold, Option, Some, None, slice_get, get_or}
+use Rattle.std.specs.Prelude.{◌≡◌, ◌+◌, ◌<◌, ◌≤◌, ℕ, Bool, true, List, ◌++◌, length, take, fold, Option, Some, None, slice_get, get_or}
 use Rattle.global_defs.specs.Entry.{Update, Transaction, apply}
 use Rattle.gvn_model.specs.declared.entry.Transaction as code_transaction
-use Rattle.disk_defs.specs.Disk.{View}
-use Rattle.journal_defs.specs.Journal.{JournalRecord, Part}
+use Rattle.disk_defs.specs.Disk.{View, AtEachMoment}
+use Rattle.journal_defs.specs.Journal.{JournalRecord, Part, Before}
 use Rattle.journal_defs.specs.Instance.{generation, regions}
 use Rattle.journal_defs.specs.Split.{split, mask_of, IsSplit}
 use Rattle.journal_defs.specs.Fit.{region_of_update}
@@ -12,7 +12,12 @@ use Rattle.region_journals.specs.Fronts.{IsNewestFile}
 use Rattle.region_journals.specs.Journals.{KeepsJournals, part_in, listed}
 use Rattle.site_regions.specs.Joined.{joined, AreChanged}
 use Rattle.site_store.specs.declared.site.OpenSite.{OpenSite}
-use Rattle.site_store.specs.Site.{count_of}
+use Rattle.site_store.specs.Site.{count_of, IsReady, IsOpen}
+use Rattle.site_defs.specs.Contents.{Contents, NO_LEFTOVER}
+use Rattle.site_defs.specs.Fronts.{with_sequence}
+use Rattle.site_defs.specs.Stands.{IsSite, HasLeft}
+use Rattle.region_epochs.specs.Kept.{image_records}
+use Rattle.region_epochs.specs.Taken.{HasSameNodes}
 use Rattle.entry_index.specs.declared.index.EntryIndex.{EntryIndex}
 use Rattle.entry_index.specs.declared.place.PartPlace.{PartPlace}
 use Rattle.entry_index.specs.Parts.{NOWHERE}
@@ -58,8 +63,8 @@ pub record IsSameMemory (old new : OpenSite) : Type 0 where
   pub same : IsSameSite old new
   pub entries : IsSameIndex old.entries new.entries
   pub globals : joined new.globals ≡ joined old.globals
-  -- though there may be more room
-  pub changed : AreChanged old.globals new.globals
+  -- though there may be more room, and more blocks may have images
+  pub nodes : HasSameNodes old.globals new.globals
 
 -- the file of one of a site's newest journals
 abbrev pub IsOwnJournal : OpenSite → ℕ → Type 0
@@ -80,6 +85,27 @@ pub record ArePartsOf (s : OpenSite) (t : Transaction) (parts : PartRecords) : T
   pub no_other : (r : ℕ) → s.layout.directory.regions ≤ r → parts_of s t r ≡ None
 
 -- Behind what waits in each region stands exactly the record of its part of the transaction, and nothing more where it has none.
+abbrev pub AppendsPart : View → View → OpenSite → OpenSite → Transaction → Type 0
+AppendsPart u v old new t = (hard waiting : ℕ → List JournalRecord) → KeepsJournals u hard waiting old.journals.journals.items
+    → KeepsJournals v hard (λ r. waiting r ++ listed (recorded (parts_of old t r))) new.journals.journals.items
+
+-- The same, behind images of the region's blocks.
 abbrev pub Appends : View → View → OpenSite → OpenSite → Transaction → Type 0
 Appends u v old new t = (hard waiting : ℕ → List JournalRecord) → KeepsJournals u hard waiting old.journals.journals.items
-    → KeepsJournals v hard (λ r. waiting r ++ listed (recorded (parts_of old t r))) new.journals.journals.items
+    → (images : ℕ → List Before) × KeepsJournals v hard (λ r. waiting r ++ (image_records (images r) ++ listed (recorded (parts_of old t r)))) new.journals.journals.items
+
+-- Images of blocks wait besides, and nothing else is new of a site.
+pub record HasLogged (u v : View) (old new : OpenSite) : Type 0 where
+  pub ready : IsReady v new
+  pub same : IsSameSite old new
+  pub entries : new.entries ≡ old.entries
+  pub globals : joined new.globals ≡ joined old.globals
+  pub nodes : HasSameNodes old.globals new.globals
+  pub waits : (hard waiting : ℕ → List JournalRecord) → KeepsJournals u hard waiting old.journals.journals.items
+      → (images : ℕ → List Before) × KeepsJournals v hard (λ r. waiting r ++ image_records (images r)) new.journals.journals.items
+  pub stays_open : (told : Bool) (c : Contents) (h : ℕ) → IsOpen u told c h old → IsOpen v told c h new
+
+-- At each moment of a call that logs images the files stand for the hardened entries, and nothing lies behind them.
+pub record AreLoggingMoments (u v : View) (old : OpenSite) : Type 0 where
+  pub any_moment : (c : Contents) (h : ℕ) → IsOpen u true c h old → AtEachMoment u v (λ f. IsSite f (with_sequence c (take h c.sequence)))
+  pub bare : (c : Contents) (h : ℕ) → IsOpen u true c h old → AtEachMoment u v (λ f. HasLeft f (with_sequence c (take h c.sequence)) NO_LEFTOVER)

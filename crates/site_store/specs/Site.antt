@@ -1,5 +1,5 @@
 -- An open site beside its disk.
-use Rattle.std.specs.Prelude.{◌≡◌, ◌≢◌, ◌⊎◌, ◌≤◌, ◌<◌, ◌+◌, ◌^◌, ◌++◌, ℕ, suc, Bool, true, false, List, [], ◌∷◌, length, take, drop, map, fold, Option, Some, None, IsTrue, IfSome, IsSomeAnd}
+use Rattle.std.specs.Prelude.{◌≡◌, ◌≢◌, ◌⊎◌, ◌≤◌, ◌<◌, ◌+◌, ◌^◌, ◌++◌, ℕ, suc, Bool, true, false, List, [], ◌∷◌, length, take, drop, map, filter, fold, Option, Some, None, IsTrue, IfSome, IsSomeAnd}
 use Rattle.std.specs.List.{AllByRecursion}
 use Rattle.std.specs.FinMap as globals
 use Rattle.disk_defs.specs.Disk.{Files, View, Image}
@@ -10,16 +10,17 @@ use Rattle.global_defs.specs.Fields.{IsSiteName}
 use Rattle.gvn_model.specs.declared.reign.Stamp.{Stamp}
 use Rattle.gvn_model.specs.Reigns.{stamp_value}
 use Rattle.global_defs.specs.Evaluation.{MOST_NODES}
-use Rattle.journal_defs.specs.Journal.{JournalRecord, Part, BeginsWithPini}
-use Rattle.journal_defs.specs.Instance.{Cut, generation, site_name, regions}
+use Rattle.journal_defs.specs.Journal.{JournalRecord, Pini, Epoch, Pblk, Tcom, Part, BeginsWithPini}
+use Rattle.journal_defs.specs.Instance.{InstanceRecord, Cut, generation, site_name, regions}
 use Rattle.journal_defs.specs.Directory.{patterns}
 use Rattle.journal_defs.specs.Surviving.{reigns}
 use Rattle.journal_defs.specs.Sequence.{Placed, Records}
 use Rattle.journal_defs.specs.Stands.{IsJournal, in_generation}
-use Rattle.journal_defs.specs.Growth.{NonePast, AreEntries, tcoms, appended}
+use Rattle.journal_defs.specs.Growth.{NonePast, AreEntries, tcoms, with_more}
+use Rattle.block_laws.specs.Several.{MayAppendAll, is_tcom}
 use Rattle.journal_defs.specs.Clean.{MOST_GENERATIONS}
 use Rattle.journal_defs.specs.Numbers.{database_file}
-use Rattle.journal_defs.specs.Epochs.{chosen, NeedsForward}
+use Rattle.journal_defs.specs.Epochs.{chosen, block_of, NeedsForward}
 use Rattle.journal_defs.specs.Sound.{NoEpochPast}
 use Rattle.journal_defs.specs.Fit.{IsSoundImage, HasFewNodes, IsAtHome}
 use Rattle.instance_file.specs.Instance as instances
@@ -104,6 +105,20 @@ StandOn false files s n j = AreOnBlocks files s n j
 abbrev pub AreSynced : View → ℕ → Type 0
 AreSynced v n = (f d : Files) → Image v f → Image v d → (r : ℕ) → r < n → d (database_file r) ≡ f (database_file r)
 
+-- what waits in a journal besides EPOCHs and starts
+abbrev pub IsPartOrImage : JournalRecord → Type 0
+IsPartOrImage (Tcom p) = Unit {0}
+IsPartOrImage (Pblk i) = Unit {0}
+IsPartOrImage (Pini s) = ⊥
+IsPartOrImage (Epoch m) = ⊥
+
+-- The records that wait in each region are these parts, with images of its blocks among them.
+pub record AreWaiting (instance : List InstanceRecord) (g : ℕ) (parts : List (ℕ → Option Part)) (waits : ℕ → List JournalRecord) : Type 0 where
+  pub parts_are : (r : ℕ) → filter is_tcom (waits r) ≡ tcoms parts r
+  pub others : (r : ℕ) → AllByRecursion IsPartOrImage (waits r)
+  pub inside : (r : ℕ) → length (regions instance) ≤ r → waits r ≡ []
+  pub at_home : (r : ℕ) → r < length (regions instance) → AllByRecursion (λ x. IsAtHome instance r g x) (waits r)
+
 -- On the disk, where its files are known: they stand for the first entries, the hardened ones, in each image, and the others stand
 -- behind closed gates of the newest journals.
 pub record Keeps (v : View) (c : Contents) (hardened : ℕ) (s : OpenSite) : Type 0 where
@@ -116,12 +131,14 @@ pub record Keeps (v : View) (c : Contents) (hardened : ℕ) (s : OpenSite) : Typ
   pub last : ℕ → ℕ
   pub older : ℕ → List Placed
   pub newer : ℕ → List JournalRecord
+  pub waits : ℕ → List JournalRecord
   pub newest : AreNewest c records g last older newer
   pub sound : (f : Files) → Image v f → IsSoundImage f records (take hardened c.sequence)
   pub older_files : (f : Files) → Image v f → (r : ℕ) → r < length (regions c.instance) → IsJournal f r g (last r) (older r)
   pub older_stand : (f : Files) → Image v f → (r : ℕ) → r < length (regions c.instance) → StandUpTo f r g (older r)
   pub none_past : NonePast hardened records
-  pub blocks : (f : Files) → Image v f → AreOnBlocks f records hardened s.globals
+  -- the regions' blocks are those of their epochs, with the images that wait
+  pub blocks : (f : Files) → Image v f → AreOnBlocks f (with_more records (λ r. map (in_generation (suc g)) (waits r))) hardened s.globals
   pub databases : AreSynced v (length (regions c.instance))
   pub no_epoch_past : (r : ℕ) → r < length (regions c.instance) → NoEpochPast hardened c.instance (records.journal r)
   -- the parts of the entries that aren't hardened
@@ -129,16 +146,24 @@ pub record Keeps (v : View) (c : Contents) (hardened : ℕ) (s : OpenSite) : Typ
   pub are_waiting : AreEntries c.instance (suc g) hardened waiting (drop hardened c.sequence)
   pub are_parts : waiting ≡ parts_of_each (patterns c.instance) hardened (drop hardened c.sequence)
   pub in_regions : AreInside (length (regions c.instance)) waiting
+  -- the records that wait: those parts, and images of blocks as they stand on the files
+  pub are_waits : AreWaiting c.instance (suc g) waiting waits
+  pub may_append : (f : Files) → Image v f → (r : ℕ) → r < length (regions c.instance)
+      → MayAppendAll (chosen c.instance hardened (records.journal r)) (block_of (f (database_file r))) (map (in_generation (suc g)) (waits r))
   -- each entry's parts stand at its places, also of those that wait
-  pub indexed : IsIndexOf (λ r. records.journal r ++ appended (suc g) waiting r) (reigns c.instance) s.entries c.sequence
-  pub at_home : (r : ℕ) → r < length (regions c.instance) → AllByRecursion (λ p. IsAtHome c.instance r p.generation p.what) (appended (suc g) waiting r)
+  pub indexed : IsIndexOf (λ r. records.journal r ++ map (in_generation (suc g)) (waits r)) (reigns c.instance) s.entries c.sequence
   pub instance_file : instances.HasRecords v s.instance c.instance
-  pub journal_files : KeepsJournals v newer (tcoms waiting) s.journals.journals.items
+  pub journal_files : KeepsJournals v newer waits s.journals.journals.items
 
 -- The site is open: it has these contents, of which so many entries are hardened, and where its files are known they are on the disk.
 pub record IsOpen (v : View) (told : Bool) (c : Contents) (hardened : ℕ) (s : OpenSite) : Type 0 where
   pub remembered : Remembers c hardened s
   pub kept : IsTrue told → Keeps v c hardened s
+
+-- So it is with all entries hardened, and nothing waits in its journals.
+pub record IsSettled (v : View) (told : Bool) (c : Contents) (s : OpenSite) : Type 0 where
+  pub is : IsOpen v told c (length c.sequence) s
+  pub none_waits : (known : IsTrue told) (r : ℕ) → (is.kept known).waits r ≡ []
 
 -- The site was opened, and nothing was done since: it has a name, all entries are hardened, and no reign has begun past them.
 pub record WasOpened (s : OpenSite) : Type 0 where

@@ -11,7 +11,7 @@ ghost use Rattle.disk_defs.specs.Frames.{OthersStay};
 ghost use Rattle.journal_defs.specs.Journal.{JournalRecord};
 ghost use Rattle.region_journals.specs.Journals.{ArePrepared, KeepsJournals};
 ghost use Rattle.site_regions.specs.Joined.{joined, AreChanged};
-ghost use Rattle.site_store.specs.Committing.{Appends, Enters, IsSameSite, IsSameMemory, IsOwnJournal, ArePartsOf};
+ghost use Rattle.site_store.specs.Committing.{Appends, AppendsPart, Enters, IsSameSite, IsSameMemory, IsOwnJournal, ArePartsOf};
 ghost use Rattle.site_store.specs.Site.{IsReady, IsOpen, HasReign, HasRoomFor, count_of, with_entry};
 
 use crate::error::SiteError;
@@ -58,12 +58,57 @@ impl OpenSite {
         Ok(parts)
     }
 
-    /// Makes a transaction the next entry, under the reign that was begun: takes all memory, and then appends to the journal of each
-    /// region that it has updates in exactly those. It answers the entry's number. The entry is on the disk for good once it's hardened.
+    /// Makes a transaction the next entry, for which there is room: takes all memory, and then appends its parts. The images of the blocks
+    /// that it changes wait already.
+    fn enter<D: Disk>(
+        &mut self,
+        alloc: Global,
+        disk: &mut D,
+        t: &Transaction,
+    ) -> Result<u64, SiteError>
+        requires ready { IsReady (D.disk disk.old) self.old }
+        requires form { IsTransaction (transaction_value t.now) }
+        requires reign { HasReign self.old }
+        requires room { count_of self.old + 1 < 2 ^ 40 }
+        requires fits { HasRoomFor (joined self.old.globals) t.now.updates }
+        ensures ready { OnOk result (IsReady (D.disk disk.new) self.new) }
+        ensures done { OnOk result ((told : Bool) (c : Contents) (h : ℕ) → IsOpen (D.disk disk.old) told c h self.old → IsOpen (D.disk disk.new) told (with_entry self.old.stamp (transaction_value t.now) c) h self.new) }
+        ensures appended { OnOk result (AppendsPart (D.disk disk.old) (D.disk disk.new) self.old self.new (transaction_value t.now)) }
+        ensures number { IfOk result (λ n. n ≡ count_of self.old + 1) }
+        ensures grown { OnOk result (count_of self.new ≡ count_of self.old + 1) }
+        ensures instance { self.new.instance ≡ self.old.instance }
+        ensures stamp { self.new.stamp ≡ self.old.stamp }
+        ensures reign { OnOk result (HasReign self.new) }
+        ensures unmade { IsErrOf result SiteError.NoMemory → IsSameMemory self.old self.new }
+        ensures goes_on { IsErrOf result SiteError.NoMemory → IsReady (D.disk disk.new) self.new }
+        ensures stays_open { IsErrOf result SiteError.NoMemory → (told : Bool) (c : Contents) (h : ℕ) → IsOpen (D.disk disk.old) told c h self.old → IsOpen (D.disk disk.new) told c h self.new }
+        ensures any_moment { (c : Contents) (h : ℕ) → IsOpen (D.disk disk.old) true c h self.old → AtEachMoment (D.disk disk.old) (D.disk disk.new) (λ f. IsSite f (with_sequence c (take h c.sequence))) }
+        ensures bare { (c : Contents) (h : ℕ) → IsOpen (D.disk disk.old) true c h self.old → AtEachMoment (D.disk disk.old) (D.disk disk.new) (λ f. HasLeft f (with_sequence c (take h c.sequence)) NO_LEFTOVER) }
+        ensures stands { (c : Contents) (h : ℕ) → IsOpen (D.disk disk.old) true c h self.old → IfSome (D.disk disk.new).content (λ f. IsSite f (with_sequence c (take h c.sequence))) }
+        ensures still_told { IsSome (D.disk disk.old).content → IsSome (D.disk disk.new).content }
+        ensures simulated { (D.disk disk.new).simulated ≡ (D.disk disk.old).simulated }
+        ensures later { (D.disk disk.old).faults ≤ (D.disk disk.new).faults }
+        ensures count { (fault : ℕ) → IsErrOf result (SiteError.Failed fault) → fault ≡ (D.disk disk.new).faults }
+        ensures cause { (fault : ℕ) → IsErrOf result (SiteError.Failed fault) → Rose (D.disk disk.old).faults (D.disk disk.new).faults }
+        ensures causes { OnErr result (((fault : ℕ) × IsErrOf result (SiteError.Failed fault)) ⊎ IsErrOf result SiteError.NoMemory) }
+    {
+        let parts = self.prepare(alloc, disk, t)?;
+        match self.journals.append(disk, &parts) {
+            Ok(()) => Ok(self.entries.len()),
+            Err(_) => Err(SiteError::Failed {
+                fault: disk.faults(),
+            }),
+        }
+    }
+
+    /// Makes a transaction the next entry, under the reign that was begun: appends to the journal of each region the images of
+    /// the blocks that it's about to change first behind the region's epoch, takes all memory, and then appends exactly the updates that it has
+    /// there. It answers the entry's number. The entry is on the disk for good once it's hardened.
     ///
     /// # Errors
     /// `Full` exactly where more than 100,000 nodes would stand after one of its updates, `SeqLimit` exactly where the last number
-    /// is used up, and `NoMemory`: nothing has changed after these three, but that there may be more room. `Failed` only where the
+    /// is used up, and `NoMemory`: nothing has changed after these three, but that there may be more room and, after
+    /// the last one, that images may wait. `Failed` only where the
     /// disk's count rose; the site is of no more use then.
     pub fn commit<D: Disk>(
         &mut self,
@@ -105,13 +150,8 @@ impl OpenSite {
             return Err(SiteError::SeqLimit);
         }
         check_room(alloc, &self.globals, &t.updates)?;
-        let parts = self.prepare(alloc, disk, t)?;
-        match self.journals.append(disk, &parts) {
-            Ok(()) => Ok(self.entries.len()),
-            Err(_) => Err(SiteError::Failed {
-                fault: disk.faults(),
-            }),
-        }
+        self.log_all_touched(alloc, disk, t.updates.as_slice())?;
+        self.enter(alloc, disk, t)
     }
 
     /// Puts all entries on the disk for good, and answers how many there are. It takes no memory.

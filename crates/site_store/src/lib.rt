@@ -17,6 +17,7 @@ mod error;
 mod finding;
 mod fitting;
 mod history;
+mod imaging;
 mod laws;
 mod layout;
 mod mapping;

@@ -259,13 +259,14 @@ impl<D: Disk> Site<D> {
         }
     }
 
-    /// Makes a transaction the next entry, under the reign that was begun: takes all memory, and then appends to the
-    /// journal of each region that it has updates in exactly those. It answers the entry's number. The entry is on the disk for good once it's hardened.
+    /// Makes a transaction the next entry, under the reign that was begun: appends to the journal of each region the images of the blocks
+    /// that it's about to change first behind the region's epoch, takes all memory, and then appends exactly the updates that it has
+    /// there. It answers the entry's number. The entry is on the disk for good once it's hardened.
     ///
     /// # Errors
     /// `Full` exactly where more than 100,000 nodes would stand after one of its updates, `SeqLimit` exactly where the last number
-    /// is used up, and `NoMemory`: nothing has changed after these three, but that there may be more room. `Failed` only where the
-    /// disk's count rose. `Stopped` exactly where a call before failed.
+    /// is used up, and `NoMemory`: nothing has changed after these three, but that there may be more room and, after the last one, that
+    /// images may wait. `Failed` only where the disk's count rose. `Stopped` exactly where a call before failed.
     pub fn commit(&mut self, t: &Transaction) -> Result<u64, SiteError>
         requires ready { MayBeCalled D.disk self.old }
         requires form { IsTransaction (transaction_value t.now) }

@@ -321,3 +321,40 @@ fn a_disk_handed_back(rt: HostRuntime) {
     assert_eq!(rt; error, SiteError::NotAFile { file: 0, offset: 0 });
     assert_eq!(rt; disk.faults(), 0);
 }
+
+/// A site with one entry, which is in an epoch.
+fn put_and_keep<D: Disk>(rt: &impl Abort, alloc: Global, disk: D) -> Site<D>
+    requires { IfSome (D.disk disk).content (λ files. records (files INSTANCE) ≡ Some []) }
+    ensures ready { IsGoing D.disk result }
+    ensures reign { HasReign result.inner }
+{
+    let mut site = begin(alloc, disk).expect(rt, "it succeeds");
+    put(rt, alloc, &mut site);
+    site.epoch().expect(rt, "it succeeds");
+    site
+}
+
+/// How long the journal of generation 1 is of a site that is given up.
+fn journal_length<D: Disk>(rt: &impl Abort, site: Site<D>) -> u64 {
+    let mut disk = site.abandon();
+    disk.len(24).expect(rt, "it succeeds")
+}
+
+/// Behind an epoch the first entry that changes a block has its image ahead of it, and the second one has none: 4,096 bytes behind a kind and
+/// a number of four bytes, a length and a gate.
+#[test]
+fn an_image_ahead_of_the_first_change(rt: HostRuntime) {
+    let alloc = rt.alloc();
+    let kept = put_and_keep(&rt, alloc, MemDisk::new(alloc).expect(&rt, "it succeeds"));
+    let none = journal_length(&rt, kept);
+    let mut site = put_and_keep(&rt, alloc, MemDisk::new(alloc).expect(&rt, "it succeeds"));
+    put(&rt, alloc, &mut site);
+    let one = journal_length(&rt, site);
+    let mut site = put_and_keep(&rt, alloc, MemDisk::new(alloc).expect(&rt, "it succeeds"));
+    put(&rt, alloc, &mut site);
+    put(&rt, alloc, &mut site);
+    let two = journal_length(&rt, site);
+    let first = one.wrapping_sub(none);
+    let second = two.wrapping_sub(one);
+    assert_eq!(rt; first, second.wrapping_add(4106));
+}

@@ -4,10 +4,11 @@ use Rattle.disk_defs.proofs.Frames.{reads_more}
 use Rattle.disk_defs.proofs.Told.{told_at, weaker_told, both_weak}
 use Rattle.jnl_file.proofs.Newer.{all_told}
 use Rattle.gvn_model.specs.Reigns.{reign_value}
-use Rattle.global_defs.specs.Entry.{Sequence}
+use Rattle.global_defs.specs.Entry.{Reign, Sequence}
 use Rattle.journal_defs.specs.Journal.{Part}
 use Rattle.journal_defs.specs.Sequence.{Records, Placed, part_of, parts, IsSequence}
 use Rattle.journal_defs.specs.Surviving as surviving
+use Rattle.mupip_recover.specs.Stamps.{AreStarts}
 use Rattle.entry_index.specs.Table.{AreSigned, sign_at, AddsRow}
 use Rattle.entry_index.specs.Indexes.{AreSigns, Indexes, IsNext}
 use Rattle.entry_index.specs.declared.error.IndexError.TheVariants.{NotAFile}
@@ -43,14 +44,15 @@ loop-place-preserved g c =
     let o = (view a.disk.now).content in
     let n = l.place + 1 in
     let rs = map reign_value c.as_slice-reigns.result.now in
+    let starts : AreStarts rs c.deref.result.now = search rules in
     let table = c.in_ok-table.table in
     let signs = map (λ s. s.items) a.signs.now in
     let made = c.add_row.new.made in
     let old = l.made.places.items in
     let new = made.places.items in
     let more = c.in_ok-more.more in
-    let added : IfSome o (λ files. (part : ℕ → Option Part) → AreSigned files table l.place n part → ((r : ℕ) → l.made.regions ≤ r → part r ≡ None) → IsNext files rs n part more old new) =
-    told_at o (view l.disk).content (λ files. (part : ℕ → Option Part) → AreSigned files table l.place n part → ((r : ℕ) → l.made.regions ≤ r → part r ≡ None) → IsNext files rs n part more old new) inv.reads.content c.in_ok-more.ensures.added in
+    let added : IfSome o (λ files. (part : ℕ → Option Part) → AreSigned files table l.place n part → ((r : ℕ) → l.made.regions ≤ r → part r ≡ None) → (ks : List Reign) → AreStarts ks c.deref.result.now → IsNext files ks n part more old new) =
+    told_at o (view l.disk).content (λ files. (part : ℕ → Option Part) → AreSigned files table l.place n part → ((r : ℕ) → l.made.regions ≤ r → part r ≡ None) → (ks : List Reign) → AreStarts ks c.deref.result.now → IsNext files ks n part more old new) inv.reads.content c.in_ok-more.ensures.added in
     let many : length new ≡ length old + l.made.regions = c.in_ok-more.ensures.many ∙ ap (λ (b : Bool). if b then length old + l.made.regions else length old) c.if-not-more.false in
     let row = subst (λ (b : Bool). AddsRow table l.place l.made.regions b old new) c.if-not-more.false c.in_ok-more.ensures.row in
     record {
@@ -59,14 +61,14 @@ loop-place-preserved g c =
       placed = placed_more a.instance.now signs l.made made row.0 l.place c.add_row.ensures.regions row.1 row.2 inv.many
           (λ r low. row.3 r low ∙ ap place_told (c.in_ok-table.ensures.parts a.instance.now c.in_ok-cuts.ensures l.place r (omega arith))) inv.placed;
       run = both_weak o (λ files. (records : ℕ → List Placed) → AreSigns files signs records → IsRun files (record { instance = a.instance.now; journal = records }) l.made l.place)
-          (λ files. (part : ℕ → Option Part) → AreSigned files table l.place n part → ((r : ℕ) → l.made.regions ≤ r → part r ≡ None) → IsNext files rs n part more old new)
+          (λ files. (part : ℕ → Option Part) → AreSigned files table l.place n part → ((r : ℕ) → l.made.regions ≤ r → part r ≡ None) → (ks : List Reign) → AreStarts ks c.deref.result.now → IsNext files ks n part more old new)
           (λ files. (records : ℕ → List Placed) → AreSigns files signs records → IsRun files (record { instance = a.instance.now; journal = records }) made n)
           inv.run added (λ files run next records are.
           let s : Records = record { instance = a.instance.now; journal = records } in
           row_added files s l.made made l.place (run records are) c.add_row.ensures.regions many
           (subst (λ (b : Bool). IsNext files (surviving.reigns a.instance.now) n (parts s n) b old new) c.if-not-more.false
           (next_by_signs files signs records a.instance.now rs l.made.regions l.place (sign_at table l.place) more old new are (c.as_slice-reigns.ensures ∙ c.requires.history) (inv.regions ∙ sym (length-map a.signs.now (λ s. s.items)))
-          (λ r. c.in_ok-table.ensures.parts a.instance.now c.in_ok-cuts.ensures l.place r (omega arith)) next)));
+          (λ r. c.in_ok-table.ensures.parts a.instance.now c.in_ok-cuts.ensures l.place r (omega arith)) (λ part at past. next part at past rs starts))));
       reads = reads_more (view a.disk.now) (view l.disk) (view c.add_row.new.disk) (g.met.D.Disk.lawful a.disk.now) inv.reads c.add_row.ensures.reads;
       faults = omega (arith, inv.faults, c.add_row.ensures.later);
     }
@@ -80,23 +82,24 @@ returns-then-not-more-clause-sequence g c =
     let o = (view a.disk.now).content in
     let n = l.place + 1 in
     let rs = map reign_value c.as_slice-reigns.result.now in
+    let starts : AreStarts rs c.deref.result.now = search rules in
     let table = c.in_ok-table.table in
     let signs = map (λ s. s.items) a.signs.now in
     let made = c.add_row.new.made in
     let old = l.made.places.items in
     let new = made.places.items in
     let more = c.in_ok-more.more in
-    let added : IfSome o (λ files. (part : ℕ → Option Part) → AreSigned files table l.place n part → ((r : ℕ) → l.made.regions ≤ r → part r ≡ None) → IsNext files rs n part more old new) =
-    told_at o (view l.disk).content (λ files. (part : ℕ → Option Part) → AreSigned files table l.place n part → ((r : ℕ) → l.made.regions ≤ r → part r ≡ None) → IsNext files rs n part more old new) inv.reads.content c.in_ok-more.ensures.added in
+    let added : IfSome o (λ files. (part : ℕ → Option Part) → AreSigned files table l.place n part → ((r : ℕ) → l.made.regions ≤ r → part r ≡ None) → (ks : List Reign) → AreStarts ks c.deref.result.now → IsNext files ks n part more old new) =
+    told_at o (view l.disk).content (λ files. (part : ℕ → Option Part) → AreSigned files table l.place n part → ((r : ℕ) → l.made.regions ≤ r → part r ≡ None) → (ks : List Reign) → AreStarts ks c.deref.result.now → IsNext files ks n part more old new) inv.reads.content c.in_ok-more.ensures.added in
     both_weak o (λ files. (records : ℕ → List Placed) → AreSigns files signs records → IsRun files (record { instance = a.instance.now; journal = records }) l.made l.place)
-    (λ files. (part : ℕ → Option Part) → AreSigned files table l.place n part → ((r : ℕ) → l.made.regions ≤ r → part r ≡ None) → IsNext files rs n part more old new)
+    (λ files. (part : ℕ → Option Part) → AreSigned files table l.place n part → ((r : ℕ) → l.made.regions ≤ r → part r ≡ None) → (ks : List Reign) → AreStarts ks c.deref.result.now → IsNext files ks n part more old new)
     (λ files. (records : ℕ → List Placed) → AreSigns files signs records → (seq : Sequence) × IsSequence (record { instance = a.instance.now; journal = records }) seq × Indexes (InFiles files) (surviving.reigns a.instance.now) made seq)
     inv.run added (λ files run next records are.
     let s : Records = record { instance = a.instance.now; journal = records } in
     run_ended files s l.made made l.place (run records are) c.add_row.ensures.regions
     (subst (λ (b : Bool). IsNext files (surviving.reigns a.instance.now) n (parts s n) b old new) c.if-not-more.true
     (next_by_signs files signs records a.instance.now rs l.made.regions l.place (sign_at table l.place) more old new are (c.as_slice-reigns.ensures ∙ c.requires.history) (inv.regions ∙ sym (length-map a.signs.now (λ s. s.items)))
-    (λ r. c.in_ok-table.ensures.parts a.instance.now c.in_ok-cuts.ensures l.place r (omega arith)) next)))
+    (λ r. c.in_ok-table.ensures.parts a.instance.now c.in_ok-cuts.ensures l.place r (omega arith)) (λ part at past. next part at past rs starts))))
 
 pub returns-then-not-more-clause-rows : goal.returns-then-not-more-clause-rows
 returns-then-not-more-clause-rows g c =

@@ -61,7 +61,7 @@ returns-in_err-log-clause-fewer g c =
     let rs = c.args.records.now in
     let k = c.loop-what.what-index in
     rw (p.1, p.2) (λ is.
-    (k, subst (λ l. HasLogged u w l x c.log.new.self) (sym (take-map record_value k rs)) (none_other u v w (map record_value (take k rs)) x y c.log.new.self c.loop-what.invariant.logged (c.in_err-log.ensures.none is))))
+    (k, c.loop-what-test.true, subst (λ l. HasLogged u w l x c.log.new.self) (sym (take-map record_value k rs)) (none_other u v w (map record_value (take k rs)) x y c.log.new.self c.loop-what.invariant.logged (c.in_err-log.ensures.none is))))
 
 pub returns-in_err-log-clause-any_moment : goal.returns-in_err-log-clause-any_moment
 returns-in_err-log-clause-any_moment g c hard waiting has =

@@ -53,7 +53,7 @@ returns-clause-goes_on g c is h ready =
     let y = c.log_all.new.self in
     let at : slice_get items n ≡ Some x = slice_get-get_or items n x c.requires.inside ∙ ap Some (sym c.index_mut.ensures.value) in
     let few = c.log_all.ensures.fewer is in
-    ready_logged u w h n items x ready at (take few.0 (map record_value c.args.records.now)) y c.log_all.ensures.frame few.1
+    ready_logged u w h n items x ready at (take few.0 (map record_value c.args.records.now)) y c.log_all.ensures.frame few.2
 
 pub returns-clause-state : goal.returns-clause-state
 returns-clause-state g c =
@@ -80,7 +80,7 @@ returns-clause-fewer g c is =
     let y = c.log_all.new.self in
     let at : slice_get items n ≡ Some x = slice_get-get_or items n x c.requires.inside ∙ ap Some (sym c.index_mut.ensures.value) in
     let few = c.log_all.ensures.fewer is in
-    (few.0, λ hard waiting keeps. keeps_logged u w c.requires.ready.0 n items x c.requires.ready.1 at (take few.0 (map record_value c.args.records.now)) y hard waiting c.log_all.ensures.frame few.1 keeps)
+    (few.0, few.1, λ hard waiting keeps. keeps_logged u w c.requires.ready.0 n items x c.requires.ready.1 at (take few.0 (map record_value c.args.records.now)) y hard waiting c.log_all.ensures.frame few.2 keeps)
 
 pub returns-clause-any_moment : goal.returns-clause-any_moment
 returns-clause-any_moment g c h hard waiting ready keeps =

@@ -1,66 +1,72 @@
-use Rattle.std.proofs.Common.{arith, refl, OnOk, IsOk}
-use Rattle.std.specs.Prelude.{Result}
-use Rattle.std.specs.declared.result.Result.TheVariants.{Ok, Err}
-use Rattle.journal_defs.specs.Instance.{generation}
-use Rattle.site_store.proofs.Marked as marking
-use Rattle.site_store.proofs.Standing.{still}
+use Rattle.std.proofs.Common.{inl, refl, ◌∙◌, ap, arith}
+use Rattle.disk_defs.proofs.Moments.{weaker, then_more, holds_now}
+use Rattle.entry_index.specs.Found.{entry_count}
+use Rattle.site_defs.specs.Contents.{Contents, Standing, bare}
+use Rattle.site_defs.specs.Behind.{IsSiteWith}
+use Rattle.site_defs.specs.Epochs.{MayMark, MayMarkLeft}
+use Rattle.site_defs.specs.Stands.{IsSite}
+use Rattle.site_store.proofs.Committed as committed
+use Rattle.site_store.proofs.Errors.{on_ok}
+use Rattle.site_store.proofs.Standing.{reads_of, still}
 use Rattle.site_store.proofs.site.OpenSite.epoch.Goals as goal
 
--- what holds of an epoch that was taken
-of_taken : {E F : Type 0} (taken : Result Unit E) (result : Result Unit F) (P Q : Type 0) → OnOk result (IsOk taken) → OnOk taken P → (P → Q) → OnOk result Q
-of_taken (Ok x) (Ok y) P Q done p k = k p
-of_taken (Err e) (Ok y) P Q done p k = absurd (cc done)
-of_taken taken (Err e) P Q done p k = tt
+pub returns-in_err-settle-clause-any_moment : goal.returns-in_err-settle-clause-any_moment
+returns-in_err-settle-clause-any_moment g c x o =
+    weaker (g.D.Disk.disk c.args.disk.now) (g.D.Disk.disk c.settle.new.disk) (λ f. IsSiteWith f (bare x)) (λ f. (o : Contents) × MayMark x o × IsSite f o) (λ f q. (x, inl refl, q.site)) (c.settle.ensures.left x o)
 
-pub returns-clause-ready : goal.returns-clause-ready
-returns-clause-ready g c =
-    let t = c.take_epoch-taken in
-    let v = g.D.Disk.disk c.args.disk.now in
-    let w = g.D.Disk.disk t.new.disk in
-    of_taken t.result c.answered.result _ _ c.answered.ensures.done t.ensures.together (λ together.
-    marking.ready_taken v w c.args.self.now _ c.requires.ready t.ensures.frame together t.ensures.count t.ensures.same refl refl refl)
+pub returns-in_err-settle-clause-left : goal.returns-in_err-settle-clause-left
+returns-in_err-settle-clause-left g c x o =
+    weaker (g.D.Disk.disk c.args.disk.now) (g.D.Disk.disk c.settle.new.disk) (λ f. IsSiteWith f (bare x)) (λ f. (o : Standing) × MayMarkLeft (bare x) o × IsSiteWith f o) (λ f q. (bare x, inl refl, q)) (c.settle.ensures.left x o)
 
-pub returns-clause-done : goal.returns-clause-done
-returns-clause-done g c =
-    let t = c.take_epoch-taken in
-    let v = g.D.Disk.disk c.args.disk.now in
-    let w = g.D.Disk.disk t.new.disk in
-    of_taken t.result c.answered.result _ _ c.answered.ensures.done t.ensures.done (λ taken told x o.
-    marking.open_taken v w told c.args.closing x c.args.self.now _ c.requires.ready c.count.ensures.joined (g.met.D.Disk.lawful c.args.disk.now) (g.met.D.Disk.lawful t.new.disk)
-    (λ u seq h newer kept size. taken u seq h newer kept (let e = c.len-number.ensures in omega (arith, size, e))) t.ensures.frame t.ensures.same refl refl refl o)
+pub returns-in_err-settle-clause-stands : goal.returns-in_err-settle-clause-stands
+returns-in_err-settle-clause-stands g c x o =
+    let w = g.D.Disk.disk c.settle.new.disk in
+    reads_of w (λ f. (o : Contents) × MayMark x o × IsSite f o) (g.met.D.Disk.lawful c.settle.new.disk)
+    (λ f now. (x, inl refl, (holds_now (g.D.Disk.disk c.args.disk.now) w (λ f. IsSiteWith f (bare x)) (g.met.D.Disk.lawful c.settle.new.disk) (c.settle.ensures.left x o) f now).site))
 
-pub returns-clause-none_needs : goal.returns-clause-none_needs
-returns-clause-none_needs g c =
-    let t = c.take_epoch-taken in
-    let v = g.D.Disk.disk c.args.disk.now in
-    let w = g.D.Disk.disk t.new.disk in
-    of_taken t.result c.answered.result _ _ c.answered.ensures.done t.ensures.done (λ taken x o.
-    let k = o.kept refl in
-    let size = o.remembered.count in
-    marking.none_needs w c.args.closing _ x.sequence _ _ _ _
-    (taken k.records x.sequence k.g k.newer (marking.is_kept v x c.args.self.now k o.remembered c.requires.ready c.count.ensures.joined (g.met.D.Disk.lawful c.args.disk.now)) (let e = c.len-number.ensures in omega (arith, size, e))))
+pub returns-in_err-settle-clause-still_told : goal.returns-in_err-settle-clause-still_told
+returns-in_err-settle-clause-still_told g c told = still (g.D.Disk.disk c.args.disk.now) (g.D.Disk.disk c.settle.new.disk) _ c.settle.ensures.frame told
+
+pub returns-in_err-settle-clause-simulated : goal.returns-in_err-settle-clause-simulated
+returns-in_err-settle-clause-simulated g c = c.settle.ensures.frame.simulated
+
+pub returns-in_err-settle-clause-reign : goal.returns-in_err-settle-clause-reign
+returns-in_err-settle-clause-reign g c r =
+    committed.reign_stays c.args.self.now c.settle.new.self r c.settle.ensures.same.instance c.settle.ensures.same.stamp (let same = ap entry_count c.settle.ensures.entries in omega (arith, same))
 
 pub returns-clause-any_moment : goal.returns-clause-any_moment
 returns-clause-any_moment g c x o =
-    let t = c.take_epoch-taken in
-    marking.marks_moments (g.D.Disk.disk c.args.disk.now) (g.D.Disk.disk t.new.disk) x c.args.self.now (o.kept refl) o.remembered c.requires.ready c.count.ensures.joined (g.met.D.Disk.lawful c.args.disk.now) (g.met.D.Disk.lawful t.new.disk)
-    (λ u seq h newer kept size. t.ensures.any_moment u seq h newer kept (let e = c.len-number.ensures in omega (arith, size, e)))
+    let u = g.D.Disk.disk c.args.disk.now in
+    let v = g.D.Disk.disk c.settle.new.disk in
+    then_more u v (g.D.Disk.disk c.mark.new.disk) (λ f. (o : Contents) × MayMark x o × IsSite f o) (λ f. (o : Contents) × MayMark x o × IsSite f o)
+    (weaker u v (λ f. IsSiteWith f (bare x)) (λ f. (o : Contents) × MayMark x o × IsSite f o) (λ f q. (x, inl refl, q.site)) (c.settle.ensures.left x o))
+    (c.mark.ensures.any_moment x (c.in_ok-settle.ensures.settled _ x o)) (λ f q. q)
 
 pub returns-clause-left : goal.returns-clause-left
 returns-clause-left g c x o =
-    let t = c.take_epoch-taken in
-    marking.marks_left (g.D.Disk.disk c.args.disk.now) (g.D.Disk.disk t.new.disk) x c.args.self.now (o.kept refl) o.remembered c.requires.ready c.count.ensures.joined (g.met.D.Disk.lawful c.args.disk.now) (g.met.D.Disk.lawful t.new.disk)
-    (λ u seq h newer kept size. t.ensures.any_moment u seq h newer kept (let e = c.len-number.ensures in omega (arith, size, e)))
+    let u = g.D.Disk.disk c.args.disk.now in
+    let v = g.D.Disk.disk c.settle.new.disk in
+    then_more u v (g.D.Disk.disk c.mark.new.disk) (λ f. (o : Standing) × MayMarkLeft (bare x) o × IsSiteWith f o) (λ f. (o : Standing) × MayMarkLeft (bare x) o × IsSiteWith f o)
+    (weaker u v (λ f. IsSiteWith f (bare x)) (λ f. (o : Standing) × MayMarkLeft (bare x) o × IsSiteWith f o) (λ f q. (bare x, inl refl, q)) (c.settle.ensures.left x o))
+    (c.mark.ensures.left x (c.in_ok-settle.ensures.settled _ x o)) (λ f q. q)
 
 pub returns-clause-stands : goal.returns-clause-stands
 returns-clause-stands g c x o =
-    let t = c.take_epoch-taken in
-    marking.marks_stands (g.D.Disk.disk c.args.disk.now) (g.D.Disk.disk t.new.disk) x c.args.self.now (o.kept refl) o.remembered c.requires.ready c.count.ensures.joined (g.met.D.Disk.lawful c.args.disk.now) (g.met.D.Disk.lawful t.new.disk)
-    (λ u seq h newer kept size. t.ensures.any_moment u seq h newer kept (let e = c.len-number.ensures in omega (arith, size, e)))
+    let v = g.D.Disk.disk c.settle.new.disk in
+    let w = g.D.Disk.disk c.mark.new.disk in
+    reads_of w (λ f. (o : Contents) × MayMark x o × IsSite f o) (g.met.D.Disk.lawful c.mark.new.disk)
+    (holds_now v w (λ f. (o : Contents) × MayMark x o × IsSite f o) (g.met.D.Disk.lawful c.mark.new.disk) (c.mark.ensures.any_moment x (c.in_ok-settle.ensures.settled _ x o)))
 
 pub returns-clause-still_told : goal.returns-clause-still_told
-returns-clause-still_told g c told =
-    still (g.D.Disk.disk c.args.disk.now) (g.D.Disk.disk c.take_epoch-taken.new.disk) _ (c.take_epoch-taken.ensures.frame (generation c.args.self.now.instance.records) c.requires.ready.journals) told
+returns-clause-still_told g c told = c.mark.ensures.still_told (still (g.D.Disk.disk c.args.disk.now) (g.D.Disk.disk c.settle.new.disk) _ c.settle.ensures.frame told)
 
 pub returns-clause-simulated : goal.returns-clause-simulated
-returns-clause-simulated g c = (c.take_epoch-taken.ensures.frame (generation c.args.self.now.instance.records) c.requires.ready.journals).simulated
+returns-clause-simulated g c = c.mark.ensures.simulated ∙ c.settle.ensures.frame.simulated
+
+pub returns-clause-reign : goal.returns-clause-reign
+returns-clause-reign g c r =
+    committed.reign_stays c.args.self.now c.mark.new.self r (c.mark.ensures.same.instance ∙ c.settle.ensures.same.instance) (c.mark.ensures.same.stamp ∙ c.settle.ensures.same.stamp)
+    (let same = ap entry_count (c.mark.ensures.entries ∙ c.settle.ensures.entries) in omega (arith, same))
+
+pub returns-clause-done : goal.returns-clause-done
+returns-clause-done g c = on_ok c.mark.result _ _ c.mark.ensures.done (λ done told x o. done told x (c.in_ok-settle.ensures.settled told x o))

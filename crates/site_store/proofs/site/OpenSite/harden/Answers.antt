@@ -17,10 +17,10 @@ pub returns-in-Ok-clause-stands : goal.returns-in-Ok-clause-stands
 returns-in-Ok-clause-stands g c y h o = hardened.harden_stands (g.D.Disk.disk c.args.disk.now) (g.D.Disk.disk c.harden.new.disk) y h (g.met.D.Disk.lawful c.harden.new.disk) (hardened.harden_moments (g.D.Disk.disk c.args.disk.now) (g.D.Disk.disk c.harden.new.disk) y h c.args.self.now c.requires.ready c.harden.ensures.any_moment o)
 
 pub returns-in-Ok-clause-ready : goal.returns-in-Ok-clause-ready
-returns-in-Ok-clause-ready g c = hardened.ready_hardened (g.D.Disk.disk c.args.disk.now) (g.D.Disk.disk c.harden.new.disk) c.args.self.now _ (record { ready = c.requires.ready; journals = c.in-Ok.ensures.ready; state = c.in-Ok.ensures.state; count = c.harden.ensures.count; stays = c.harden.ensures.frame; instance = refl; layout = refl; entries = refl; globals = refl; hardened = search rules })
+returns-in-Ok-clause-ready g c = hardened.ready_hardened (g.D.Disk.disk c.args.disk.now) (g.D.Disk.disk c.harden.new.disk) c.args.self.now _ (record { ready = c.requires.ready; journals = c.in-Ok.ensures.ready; state = c.in-Ok.ensures.state; count = c.harden.ensures.count; stays = c.harden.ensures.frame; instance = refl; layout = refl; entries = refl; globals = refl })
 
 pub returns-in-Ok-clause-done : goal.returns-in-Ok-clause-done
-returns-in-Ok-clause-done g c told y h o = hardened.open_hardened (g.D.Disk.disk c.args.disk.now) (g.D.Disk.disk c.harden.new.disk) told y h c.args.self.now _ (record { ready = c.requires.ready; journals = c.in-Ok.ensures.ready; state = c.in-Ok.ensures.state; count = c.harden.ensures.count; stays = c.harden.ensures.frame; instance = refl; layout = refl; entries = refl; globals = refl; hardened = search rules }) (g.met.D.Disk.lawful c.harden.new.disk) o
+returns-in-Ok-clause-done g c told y h o = hardened.open_hardened (g.D.Disk.disk c.args.disk.now) (g.D.Disk.disk c.harden.new.disk) told y h c.args.self.now _ (record { ready = c.requires.ready; journals = c.in-Ok.ensures.ready; state = c.in-Ok.ensures.state; count = c.harden.ensures.count; stays = c.harden.ensures.frame; instance = refl; layout = refl; entries = refl; globals = refl }) (search rules) (g.met.D.Disk.lawful c.harden.new.disk) o
 
 pub returns-in-Ok-clause-still_told : goal.returns-in-Ok-clause-still_told
 returns-in-Ok-clause-still_told g c = still (g.D.Disk.disk c.args.disk.now) (g.D.Disk.disk c.harden.new.disk) _ (c.harden.ensures.frame (generation c.args.self.now.instance.records) c.requires.ready.journals)
