@@ -16,15 +16,15 @@ use Rattle.journal_defs.specs.Numbers.{journal_file}
 use Rattle.journal_defs.specs.Sequence.{Placed, entry_with}
 use Rattle.journal_defs.specs.Stands.{IsJournal}
 use Rattle.journal_defs.specs.Surviving.{survives}
-use Rattle.jnl_index.specs.Places.{StandsAt, IsSignOf, AreSignsOf}
-use Rattle.jnl_index.specs.Order.{IsAmong, StandUpTo, bytes_in}
-use Rattle.jnl_index.specs.declared.placed.PlacedSign.{PlacedSign}
-use Rattle.jnl_index.specs.declared.sign.Sign.{Sign}
-use Rattle.jnl_index.specs.declared.sign.Sign.TheVariants.{Pini, Epoch, Pblk, Tcom as TcomSign}
-use Rattle.jnl_index.proofs.Order.{up_to}
-use Rattle.jnl_index.proofs.Stands.{one_stands}
+use Rattle.entry_index.specs.Places.{StandsAt, IsSignOf, AreSignsOf}
+use Rattle.entry_index.specs.Order.{IsAmong, StandUpTo, bytes_in}
+use Rattle.entry_index.specs.declared.placed.PlacedSign.{PlacedSign}
+use Rattle.entry_index.specs.declared.sign.Sign.{Sign}
+use Rattle.entry_index.specs.declared.sign.Sign.TheVariants.{Pini, Epoch, Pblk, Tcom as TcomSign}
+use Rattle.entry_index.proofs.Order.{up_to}
+use Rattle.entry_index.proofs.Stands.{one_stands}
 use Rattle.entry_index.specs.declared.place.PartPlace.{PartPlace}
-use Rattle.entry_index.specs.declared.sign.PartSign.{PartSign}
+use Rattle.entry_index.specs.declared.signed_part.PartSign.{PartSign}
 use Rattle.entry_index.specs.declared.index.EntryIndex.{EntryIndex}
 use Rattle.entry_index.specs.Parts.{InFiles, InJournals, IsPartAt}
 use Rattle.entry_index.specs.Signs.{part_said, part_sign_in, if_numbered, if_surviving, sign_in, last_sign, signs_of}
@@ -32,7 +32,7 @@ use Rattle.entry_index.specs.Completing.{place_told}
 use Rattle.entry_index.specs.Indexes.{place_of, Indexes, AreSigns}
 use Rattle.entry_index.specs.Among.{IsIndexOf, AreAllInOrder, ArePlaced}
 use Rattle.entry_index.specs.Found.{entry_count, IsWhole}
-use Rattle.entry_index.proofs.Laws.{moved, elsewhere}
+use Rattle.entry_index.proofs.IndexLaws.{moved, elsewhere}
 
 got_front : {X : Type 0} (xs ys : List X) (k : ℕ) (x : X) → slice_get xs k ≡ Some x → slice_get (xs ++ ys) k ≡ Some x
 got_front [] ys k x is = absurd (cc is)

@@ -17,9 +17,9 @@ use Rattle.mupip_recover.specs.Slots.{next_after, is_at}
 use Rattle.mupip_recover.specs.Parts.{items_at}
 use Rattle.mupip_recover.proofs.InOrder.{by_order}
 use Rattle.mupip_recover.proofs.Completion.{among_found}
-use Rattle.jnl_index.specs.Signs.{first_of, is_row, span_of}
-use Rattle.jnl_index.specs.declared.sign.Span.{Span}
-use Rattle.entry_index.specs.declared.sign.PartSign.{PartSign}
+use Rattle.entry_index.specs.RecordSigns.{first_of, is_row, span_of}
+use Rattle.entry_index.specs.declared.sign.Span.{Span}
+use Rattle.entry_index.specs.declared.signed_part.PartSign.{PartSign}
 use Rattle.entry_index.specs.declared.completing.Told.{Told}
 use Rattle.entry_index.specs.declared.completing.Told.TheVariants.{Complete, Broken, Unsure}
 use Rattle.entry_index.specs.declared.place.PartPlace.{PartPlace}

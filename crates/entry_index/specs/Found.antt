@@ -6,7 +6,7 @@ use Rattle.journal_defs.specs.Instance.{InstanceRecord}
 use Rattle.journal_defs.specs.Surviving.{reigns}
 use Rattle.journal_defs.specs.Sequence.{Records, IsSequence}
 use Rattle.journal_defs.specs.Stands.{AreRecords}
-use Rattle.jnl_index.specs.declared.placed.PlacedSign.{PlacedSign}
+use Rattle.entry_index.specs.declared.placed.PlacedSign.{PlacedSign}
 use Rattle.entry_index.specs.declared.index.EntryIndex.{EntryIndex}
 use Rattle.entry_index.specs.Indexes.{AreSigns, Indexes}
 use Rattle.entry_index.specs.Parts.{InFiles}

@@ -1,3 +1,10 @@
+pub mod RecordSigns
+pub mod Places
+pub mod Fields
+pub mod Telling
+pub mod Pieces
+pub mod Generations
+pub mod Order
 pub mod Errors
 pub mod Parts
 pub mod Signs

@@ -1,6 +1,6 @@
 //! Indexes built from the signs of records.
 ghost use Rattle.std.specs.Prelude.{◌≡◌, ◌≤◌, ◌<◌, ◌+◌, ◌*◌, ◌^◌, ℕ, List, length, map, Option, None, is_some, IfOk, IfSome, OnOk, IsErrOf, true, if◌then◌else◌};
-ghost use Rattle.disk_defs.specs.Disk.{Reads, Rose};
+ghost use Rattle.disk_defs.specs.Disk.{Reads, MayFailUncounted};
 ghost use Rattle.global_defs.specs.Entry as defs;
 ghost use Rattle.global_defs.specs.Prefix as prefix;
 ghost use Rattle.journal_defs.specs.Journal as journal;
@@ -15,11 +15,11 @@ ghost use Rattle.entry_index.specs.Parts.{InFiles};
 use crate::completing::{is_complete, place_in};
 use crate::error::IndexError;
 use crate::index::EntryIndex;
+use crate::placed::PlacedSign;
 use crate::table::{SignTable, count_all};
 use gvn_key::NoMemory;
 use gvn_model::Reigns;
 use instance_file::InstanceRecords;
-use jnl_index::PlacedSign;
 use mupip_recover::{Cuts, starts_of};
 use repl_disk::Disk;
 use std::alloc::Global;
@@ -60,8 +60,7 @@ fn add_row<D: Disk>(
     ensures regions { made.new.regions ≡ made.old.regions }
     ensures outside { (file offset : ℕ) → IsErrOf result (IndexError.NotAFile file offset) → IfSome (D.disk disk.old).content (λ files. (part : ℕ → Option journal.Part) → AreSigned files table.now place (place + 1) part → ((r : ℕ) → made.old.regions ≤ r → part r ≡ None) → ⊥) }
     ensures reads { Reads (D.disk disk.old) (D.disk disk.new) }
-    ensures later { (D.disk disk.old).faults ≤ (D.disk disk.new).faults }
-    ensures cause { IsErrOf result IndexError.Failed → Rose (D.disk disk.old).faults (D.disk disk.new).faults }
+    ensures faults { MayFailUncounted (D.disk disk.old).faults (D.disk disk.new).faults (IsErrOf result IndexError.Failed) }
 {
     if !has_begun(starts, place as u64 + 1) {
         return Ok(false);
@@ -100,8 +99,7 @@ impl EntryIndex {
         ensures placed { IfOk result (λ made. ArePlaced instance.now (map (λ s. s.items) signs.now) made) }
         ensures outside { (file offset : ℕ) → IsErrOf result (IndexError.NotAFile file offset) → IfSome (D.disk disk.old).content (λ files. (journal : ℕ → List sequences.Placed) → AreSigns files (map (λ s. s.items) signs.now) journal → ⊥) }
         ensures reads { Reads (D.disk disk.old) (D.disk disk.new) }
-        ensures later { (D.disk disk.old).faults ≤ (D.disk disk.new).faults }
-        ensures cause { IsErrOf result IndexError.Failed → Rose (D.disk disk.old).faults (D.disk disk.new).faults }
+        ensures faults { MayFailUncounted (D.disk disk.old).faults (D.disk disk.new).faults (IsErrOf result IndexError.Failed) }
     {
         let cuts = Cuts::of(alloc, instance)?;
         let Some(places) = count_all(signs) else {

@@ -1,11 +1,11 @@
 //! Which entries are complete.
 ghost use Rattle.std.specs.Prelude.{◌≡◌, ◌==◌, ◌+◌, ◌<◌, ◌≤◌, ◌^◌, ℕ, List, length, get_or, true, is_some, Option, Some, None, IfOk, IfSome, IsErrOf, IsTrue};
 ghost use Rattle.std.specs.List.{list_all};
-ghost use Rattle.disk_defs.specs.Disk.{Files, Reads, Rose};
+ghost use Rattle.disk_defs.specs.Disk.{Files, Reads, MayFailUncounted};
 ghost use Rattle.global_defs.specs.Entry as defs;
 ghost use Rattle.journal_defs.specs.Journal as journal;
 ghost use Rattle.journal_defs.specs.Sequence.{REGIONS, items_in, entry_among};
-ghost use Rattle.jnl_index.specs.Signs.{span_of};
+ghost use Rattle.entry_index.specs.RecordSigns.{span_of};
 ghost use Rattle.mupip_recover.specs.Entries.{entry_in};
 ghost use Rattle.mupip_recover.specs.Slots.{next_after, is_at};
 ghost use Rattle.entry_index.specs.Parts.{NOWHERE, InFiles, AreParts};
@@ -16,11 +16,11 @@ ghost use Rattle.entry_index.specs.Completing.{agrees_by_sign, span_at, place_to
 use crate::error::IndexError;
 use crate::place::{NOWHERE, PartPlace};
 use crate::reading::read_transaction;
-use crate::sign;
-use crate::sign::PartSign;
+use crate::sign::Span;
+use crate::signed_part;
+use crate::signed_part::PartSign;
 use crate::table::SignTable;
 use gvn_key::NoMemory;
-use jnl_index::Span;
 use repl_disk::Disk;
 use std::alloc::Global;
 
@@ -53,7 +53,7 @@ fn agrees(table: &SignTable, place: usize, head: &PartSign, region: u8) -> bool
 fn all_agree(table: &SignTable, place: usize, head: &PartSign) -> bool
     ensures { result ≡ list_all (λ r. agrees_by_sign head.now (sign_at table.now place r) r) REGIONS }
 {
-    for region in 0..sign::REGIONS {
+    for region in 0..signed_part::REGIONS {
         if !agrees(table, place, head, region) {
             return false;
         }
@@ -100,7 +100,7 @@ fn are_in_order(table: &SignTable, place: usize, head: &PartSign) -> bool
         → is_at head.now.count (next_after 0 (items_in head.now.mask part)) ≡ true }
 {
     let mut next = 0;
-    for region in 0..sign::REGIONS {
+    for region in 0..signed_part::REGIONS {
         let Some(after) = position_after(next, span_in(table, place, head, region)) else {
             return false;
         };
@@ -115,7 +115,7 @@ fn has_count(table: &SignTable, place: usize, head: &PartSign) -> bool
         → result ≡ (length (items_in head.now.mask part) == head.now.count) }
 {
     let mut left = head.count;
-    for region in 0..sign::REGIONS {
+    for region in 0..signed_part::REGIONS {
         let many = span_in(table, place, head, region).many;
         if many > left {
             return false;
@@ -174,7 +174,7 @@ fn told_in(table: &SignTable, place: usize, region: u8) -> Told
 fn told_at(table: &SignTable, place: usize) -> Told
     ensures { (files : Files) (n : ℕ) (part : ℕ → Option journal.Part) → AreSigned files table.now place n part → (stamp : defs.Stamp) → IsTold result (entry_among part stamp REGIONS) }
 {
-    for region in 0..sign::REGIONS {
+    for region in 0..signed_part::REGIONS {
         match told_in(table, place, region) {
             Told::Broken => {}
             told => return told,
@@ -226,8 +226,7 @@ pub fn is_complete<D: Disk>(
         → (stamp : defs.Stamp) → complete ≡ is_some (entry_among part stamp REGIONS))) }
     ensures outside { (file offset : ℕ) → IsErrOf result (IndexError.NotAFile file offset) → IfSome (D.disk disk.old).content (λ files. (part : ℕ → Option journal.Part) → AreSigned files table.now place (place + 1) part → ((r : ℕ) → regions ≤ r → part r ≡ None) → ⊥) }
     ensures reads { Reads (D.disk disk.old) (D.disk disk.new) }
-    ensures later { (D.disk disk.old).faults ≤ (D.disk disk.new).faults }
-    ensures cause { IsErrOf result IndexError.Failed → Rose (D.disk disk.old).faults (D.disk disk.new).faults }
+    ensures faults { MayFailUncounted (D.disk disk.old).faults (D.disk disk.new).faults (IsErrOf result IndexError.Failed) }
 {
     match told_at(table, place) {
         Told::Complete => Ok(true),

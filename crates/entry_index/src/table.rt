@@ -6,9 +6,9 @@ ghost use Rattle.mupip_recover.specs.Cuts.{AreCuts};
 ghost use Rattle.entry_index.specs.Signs.{is_part_sign, part_sign_in, if_numbered, sign_in, last_sign, signs_of};
 ghost use Rattle.entry_index.specs.Table.{sign_in_column, sign_at, IsColumn};
 
-use crate::sign::{PartSign, part_sign};
+use crate::placed::PlacedSign;
+use crate::signed_part::{PartSign, part_sign};
 use gvn_key::NoMemory;
-use jnl_index::PlacedSign;
 use mupip_recover::Cuts;
 use std::alloc::Global;
 

@@ -1,9 +1,9 @@
 //! Journals of worked bytes, with their records and signs beside them.
 ghost use Rattle.std.specs.Prelude.{◌≡◌, ◌<◌, ◌≤◌, ◌+◌, length};
 
+use entry_index::{PlacedSign, read_sign};
 use gvn_key::Bytes;
 use jnl_file::journal_file;
-use jnl_index::{PlacedSign, read_sign};
 use jnl_record::{PlacedRecord, decode};
 use repl_disk::{Disk, MemDisk};
 use std::alloc::Global;

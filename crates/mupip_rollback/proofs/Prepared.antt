@@ -18,7 +18,7 @@ use Rattle.site_defs.specs.Contents.{Contents, Leftover}
 use Rattle.site_defs.specs.OutsideBlocks.{IsOutsideRollback}
 use Rattle.site_defs.specs.Stands.{IsSite, HasLeft}
 use Rattle.site_files.specs.Loading.{AreUnbegun, next_cut}
-use Rattle.site_regions.specs.Joined.{Joined}
+use Rattle.region_store.specs.Joined.{Joined}
 use Rattle.site_store.specs.declared.layout.Layout.{Layout}
 use Rattle.site_store.specs.declared.preparing.FoundFiles.{FoundFiles}
 use Rattle.site_store.specs.declared.preparing.StandingSite.{StandingSite}

@@ -31,8 +31,8 @@ use Rattle.region_store.specs.Region.{Standing, HoldsRegion, IsHeld, IsReplayed}
 use Rattle.region_store.proofs.Breaks.{nothing_outside}
 use Rattle.region_store.proofs.States as states
 use Rattle.site_defs.specs.OutsideBlocks.{IsOutsideAt, AreOutside, HaveOutsideBlocks, gone_back}
-use Rattle.site_regions.specs.Joined.{ArePartsOf, no_region}
-use Rattle.jnl_index.specs.declared.placed.PlacedSign.{PlacedSign}
+use Rattle.region_store.specs.Joined.{ArePartsOf, no_region}
+use Rattle.entry_index.specs.declared.placed.PlacedSign.{PlacedSign}
 use Rattle.jnl_file.proofs.Newer.{all_told}
 use Rattle.entry_index.specs.declared.index.EntryIndex.{EntryIndex}
 use Rattle.entry_index.specs.Signs.{signs_of}
@@ -47,7 +47,7 @@ use Rattle.region_opening.specs.Replaying.{AreBecome, IsGivenUpTo}
 use Rattle.region_opening.proofs.Homes.{some_parts}
 use Rattle.region_opening.proofs.Lists.{of_mapped, of_more, mapped_at, at_place}
 use Rattle.region_opening.proofs.Said.{told_say, region_told, none_signed}
-use Rattle.site_regions.proofs.Lists.{there}
+use Rattle.region_store.proofs.Lists.{there}
 use Rattle.std.proofs.lemmas.Option.{slice_get_within}
 use Rattle.disk_defs.proofs.Told.{weaker_told, both_weak}
 use Rattle.global_defs.specs.Valid.{is_key}

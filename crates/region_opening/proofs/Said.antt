@@ -5,9 +5,9 @@ use Rattle.std.proofs.lemmas.Bool.{cases_lt}
 use Rattle.std.proofs.lemmas.List.{get_or_past}
 use Rattle.disk_defs.specs.Disk.{Files}
 use Rattle.journal_defs.specs.Sequence.{Placed}
-use Rattle.jnl_index.specs.declared.placed.PlacedSign.{PlacedSign}
-use Rattle.jnl_index.specs.declared.sign.Sign.TheVariants.{Pini}
-use Rattle.jnl_index.specs.Places.{IsSignOf, AreSignsOf}
+use Rattle.entry_index.specs.declared.placed.PlacedSign.{PlacedSign}
+use Rattle.entry_index.specs.declared.sign.Sign.TheVariants.{Pini}
+use Rattle.entry_index.specs.Places.{IsSignOf, AreSignsOf}
 use Rattle.entry_index.specs.Signs.{signs_of}
 use Rattle.entry_index.specs.Indexes.{AreSigns}
 use Rattle.region_opening.specs.Signs.{Says, Say, AllSay, IsDrawn, AreTold}

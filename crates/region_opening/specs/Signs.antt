@@ -8,11 +8,11 @@ use Rattle.journal_defs.specs.Instance.{InstanceRecord}
 use Rattle.journal_defs.specs.Surviving.{survives}
 use Rattle.journal_defs.specs.Sequence.{Placed}
 use Rattle.journal_defs.specs.Epochs.{Chosen}
-use Rattle.jnl_index.specs.declared.placed.PlacedSign.{PlacedSign}
-use Rattle.jnl_index.specs.declared.sign.Sign.{Sign}
-use Rattle.jnl_index.specs.declared.sign.Sign.TheVariants.{Pini, Epoch, Pblk, Tcom}
-use Rattle.jnl_index.specs.Signs.{sign_of}
-use Rattle.jnl_index.specs.Places.{AreSignsOf}
+use Rattle.entry_index.specs.declared.placed.PlacedSign.{PlacedSign}
+use Rattle.entry_index.specs.declared.sign.Sign.{Sign}
+use Rattle.entry_index.specs.declared.sign.Sign.TheVariants.{Pini, Epoch, Pblk, Tcom}
+use Rattle.entry_index.specs.RecordSigns.{sign_of}
+use Rattle.entry_index.specs.Places.{AreSignsOf}
 use Rattle.entry_index.specs.Signs.{signs_of}
 
 -- the sign is that of this record, wherever it stands

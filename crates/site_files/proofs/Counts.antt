@@ -12,7 +12,7 @@ use Rattle.journal_defs.specs.Surviving.{reigns}
 use Rattle.journal_defs.specs.Sequence.{Records, entry_with, IsSequence}
 use Rattle.journal_defs.specs.Stands.{AreRecords}
 use Rattle.journal_laws.proofs.Runs.{entry_none}
-use Rattle.jnl_index.specs.declared.placed.PlacedSign.{PlacedSign}
+use Rattle.entry_index.specs.declared.placed.PlacedSign.{PlacedSign}
 use Rattle.entry_index.specs.declared.index.EntryIndex.{EntryIndex}
 use Rattle.entry_index.specs.Indexes.{AreSigns, Indexes}
 use Rattle.entry_index.specs.Found.{AreFound, entry_count}

@@ -17,9 +17,9 @@ use Rattle.jnl_file.specs.declared.error.JournalError.{JournalError}
 use Rattle.jnl_file.specs.declared.error.JournalError.TheVariants as journals
 use Rattle.jnl_record.specs.declared.placed.PlacedRecord.{PlacedRecord}
 use Rattle.jnl_record.specs.Values.{placed_value}
-use Rattle.jnl_index.specs.declared.placed.PlacedSign.{PlacedSign}
-use Rattle.jnl_index.specs.Places.{StandsAt, IsSignOf}
-use Rattle.jnl_index.specs.Signs.{sign_of}
+use Rattle.entry_index.specs.declared.placed.PlacedSign.{PlacedSign}
+use Rattle.entry_index.specs.Places.{StandsAt, IsSignOf}
+use Rattle.entry_index.specs.RecordSigns.{sign_of}
 use Rattle.entry_index.specs.Indexes.{AreSigns}
 use Rattle.mupip_recover.specs.Site.{journal_of}
 use Rattle.site_files.specs.Errors.{placed_error}

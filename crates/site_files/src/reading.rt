@@ -1,6 +1,6 @@
 //! Reading the files of a site.
 ghost use Rattle.std.specs.Prelude.{◌≡◌, ◌⊎◌, ◌≤◌, ◌<◌, ◌++◌, ◌∷◌, [], ℕ, suc, List, length, map, Some, None, IfSome, IfOk, OnOk, OnErr, IsErrOf};
-ghost use Rattle.disk_defs.specs.Disk.{Image, IsDurable, AtEachMoment, Rose};
+ghost use Rattle.disk_defs.specs.Disk.{Image, IsDurable, AtEachMoment, MayFail};
 ghost use Rattle.disk_defs.specs.Gates.{records};
 ghost use Rattle.std.specs.List.{AllByRecursion};
 ghost use Rattle.instance_file.specs.Order.{AreInOrder};
@@ -13,8 +13,8 @@ ghost use Rattle.journal_defs.specs.Sequence.{Placed, Records};
 ghost use Rattle.journal_defs.specs.Stands.{IsInstance, IsJournal, AreRecords};
 ghost use Rattle.jnl_file.specs.Generations.{AreDurable};
 ghost use Rattle.site_defs.specs.OutsideJournal.{IsOutsideGenerations};
-ghost use Rattle.jnl_index.specs.Order as orders;
-ghost use Rattle.jnl_index.specs.Places.{AreSignsOf};
+ghost use Rattle.entry_index.specs.Order as orders;
+ghost use Rattle.entry_index.specs.Places.{AreSignsOf};
 ghost use Rattle.entry_index.specs.Among.{AreAllInOrder};
 ghost use Rattle.entry_index.specs.Indexes.{AreSigns};
 ghost use Rattle.site_files.specs.Errors.{generations_error};
@@ -25,11 +25,11 @@ ghost use Rattle.site_files.specs.Reading.{HaveSigns, AreAllDurable, AreUnbegunD
 use crate::error::FilesError;
 use crate::finding::{generation_in, read_instance};
 use crate::mapping::directory_of;
+use entry_index::{PlacedSign, RegionSigns, index_generations};
 use global_dir::Directory;
 use gvn_key::NoMemory;
 use instance_file::{InstanceLog, InstanceRecord};
 use jnl_file::{GenerationsError, is_unbegun, journal_file};
-use jnl_index::{PlacedSign, RegionSigns, index_generations};
 use repl_disk::Disk;
 use std::alloc::Global;
 
@@ -78,9 +78,7 @@ fn index_journals<D: Disk>(
     ensures content { (D.disk disk.new).content ≡ (D.disk disk.old).content }
     ensures any_moment { AtEachMoment (D.disk disk.old) (D.disk disk.new) (Image (D.disk disk.old)) }
     ensures simulated { (D.disk disk.new).simulated ≡ (D.disk disk.old).simulated }
-    ensures later { (D.disk disk.old).faults ≤ (D.disk disk.new).faults }
-    ensures count { (fault : ℕ) → IsErrOf result (FilesError.Failed fault) → fault ≡ (D.disk disk.new).faults }
-    ensures cause { (fault : ℕ) → IsErrOf result (FilesError.Failed fault) → Rose (D.disk disk.old).faults (D.disk disk.new).faults }
+    ensures faults { MayFail (D.disk disk.old).faults (D.disk disk.new).faults (λ fault. IsErrOf result (FilesError.Failed fault)) }
     ensures causes { OnErr result (((fault : ℕ) × IsErrOf result (FilesError.Failed fault)) ⊎ ((file : ℕ) × (offset : ℕ) × IsErrOf result (FilesError.NotAFile file offset)) ⊎ IsErrOf result FilesError.NoMemory) }
 {
     match index_generations(alloc, disk, region, last) {
@@ -131,9 +129,7 @@ fn read_regions<D: Disk>(
     ensures content { (D.disk disk.new).content ≡ (D.disk disk.old).content }
     ensures any_moment { AtEachMoment (D.disk disk.old) (D.disk disk.new) (Image (D.disk disk.old)) }
     ensures simulated { (D.disk disk.new).simulated ≡ (D.disk disk.old).simulated }
-    ensures later { (D.disk disk.old).faults ≤ (D.disk disk.new).faults }
-    ensures count { (fault : ℕ) → IsErrOf result (FilesError.Failed fault) → fault ≡ (D.disk disk.new).faults }
-    ensures cause { (fault : ℕ) → IsErrOf result (FilesError.Failed fault) → Rose (D.disk disk.old).faults (D.disk disk.new).faults }
+    ensures faults { MayFail (D.disk disk.old).faults (D.disk disk.new).faults (λ fault. IsErrOf result (FilesError.Failed fault)) }
     ensures causes { OnErr result (((fault : ℕ) × IsErrOf result (FilesError.Failed fault)) ⊎ ((file : ℕ) × (offset : ℕ) × IsErrOf result (FilesError.NotAFile file offset)) ⊎ IsErrOf result FilesError.NoMemory) }
 {
     let mut signs = Vec::new(alloc);
@@ -161,9 +157,7 @@ fn see_unbegun<D: Disk>(
     ensures content { (D.disk disk.new).content ≡ (D.disk disk.old).content }
     ensures any_moment { AtEachMoment (D.disk disk.old) (D.disk disk.new) (Image (D.disk disk.old)) }
     ensures simulated { (D.disk disk.new).simulated ≡ (D.disk disk.old).simulated }
-    ensures later { (D.disk disk.old).faults ≤ (D.disk disk.new).faults }
-    ensures count { (fault : ℕ) → IsErrOf result (FilesError.Failed fault) → fault ≡ (D.disk disk.new).faults }
-    ensures cause { (fault : ℕ) → IsErrOf result (FilesError.Failed fault) → Rose (D.disk disk.old).faults (D.disk disk.new).faults }
+    ensures faults { MayFail (D.disk disk.old).faults (D.disk disk.new).faults (λ fault. IsErrOf result (FilesError.Failed fault)) }
     ensures causes { OnErr result (((fault : ℕ) × IsErrOf result (FilesError.Failed fault)) ⊎ ((file : ℕ) × (offset : ℕ) × IsErrOf result (FilesError.NotAFile file offset)) ⊎ IsErrOf result FilesError.NoMemory) }
 {
     match is_unbegun(alloc, disk, region, generation) {
@@ -192,9 +186,7 @@ fn see_regions<D: Disk>(
     ensures content { (D.disk disk.new).content ≡ (D.disk disk.old).content }
     ensures any_moment { AtEachMoment (D.disk disk.old) (D.disk disk.new) (Image (D.disk disk.old)) }
     ensures simulated { (D.disk disk.new).simulated ≡ (D.disk disk.old).simulated }
-    ensures later { (D.disk disk.old).faults ≤ (D.disk disk.new).faults }
-    ensures count { (fault : ℕ) → IsErrOf result (FilesError.Failed fault) → fault ≡ (D.disk disk.new).faults }
-    ensures cause { (fault : ℕ) → IsErrOf result (FilesError.Failed fault) → Rose (D.disk disk.old).faults (D.disk disk.new).faults }
+    ensures faults { MayFail (D.disk disk.old).faults (D.disk disk.new).faults (λ fault. IsErrOf result (FilesError.Failed fault)) }
     ensures causes { OnErr result (((fault : ℕ) × IsErrOf result (FilesError.Failed fault)) ⊎ ((file : ℕ) × (offset : ℕ) × IsErrOf result (FilesError.NotAFile file offset)) ⊎ IsErrOf result FilesError.NoMemory) }
 {
     for region in 0..regions {
@@ -270,9 +262,7 @@ pub fn read_records<D: Disk>(alloc: Global, disk: &mut D) -> Result<ReadSite, Fi
     ensures content { (D.disk disk.new).content ≡ (D.disk disk.old).content }
     ensures any_moment { AtEachMoment (D.disk disk.old) (D.disk disk.new) (Image (D.disk disk.old)) }
     ensures simulated { (D.disk disk.new).simulated ≡ (D.disk disk.old).simulated }
-    ensures later { (D.disk disk.old).faults ≤ (D.disk disk.new).faults }
-    ensures count { (fault : ℕ) → IsErrOf result (FilesError.Failed fault) → fault ≡ (D.disk disk.new).faults }
-    ensures cause { (fault : ℕ) → IsErrOf result (FilesError.Failed fault) → Rose (D.disk disk.old).faults (D.disk disk.new).faults }
+    ensures faults { MayFail (D.disk disk.old).faults (D.disk disk.new).faults (λ fault. IsErrOf result (FilesError.Failed fault)) }
     ensures causes { OnErr result (((fault : ℕ) × IsErrOf result (FilesError.Failed fault)) ⊎ ((file : ℕ) × (offset : ℕ) × IsErrOf result (FilesError.NotAFile file offset)) ⊎ IsErrOf result FilesError.NoMemory) }
 {
     let log = read_instance(alloc, disk)?;
@@ -309,9 +299,7 @@ pub fn read_site<D: Disk>(alloc: Global, disk: &mut D) -> Result<ReadSite, Files
     ensures content { (D.disk disk.new).content ≡ (D.disk disk.old).content }
     ensures any_moment { AtEachMoment (D.disk disk.old) (D.disk disk.new) (Image (D.disk disk.old)) }
     ensures simulated { (D.disk disk.new).simulated ≡ (D.disk disk.old).simulated }
-    ensures later { (D.disk disk.old).faults ≤ (D.disk disk.new).faults }
-    ensures count { (fault : ℕ) → IsErrOf result (FilesError.Failed fault) → fault ≡ (D.disk disk.new).faults }
-    ensures cause { (fault : ℕ) → IsErrOf result (FilesError.Failed fault) → Rose (D.disk disk.old).faults (D.disk disk.new).faults }
+    ensures faults { MayFail (D.disk disk.old).faults (D.disk disk.new).faults (λ fault. IsErrOf result (FilesError.Failed fault)) }
     ensures causes { OnErr result (IsErrOf result FilesError.GenLimit ⊎ ((fault : ℕ) × IsErrOf result (FilesError.Failed fault)) ⊎ ((file : ℕ) × (offset : ℕ) × IsErrOf result (FilesError.NotAFile file offset)) ⊎ IsErrOf result FilesError.NoMemory) }
 {
     let log = read_instance(alloc, disk)?;
@@ -346,9 +334,7 @@ pub fn see_ahead<D: Disk>(
     ensures content { (D.disk disk.new).content ≡ (D.disk disk.old).content }
     ensures any_moment { AtEachMoment (D.disk disk.old) (D.disk disk.new) (Image (D.disk disk.old)) }
     ensures simulated { (D.disk disk.new).simulated ≡ (D.disk disk.old).simulated }
-    ensures later { (D.disk disk.old).faults ≤ (D.disk disk.new).faults }
-    ensures count { (fault : ℕ) → IsErrOf result (FilesError.Failed fault) → fault ≡ (D.disk disk.new).faults }
-    ensures cause { (fault : ℕ) → IsErrOf result (FilesError.Failed fault) → Rose (D.disk disk.old).faults (D.disk disk.new).faults }
+    ensures faults { MayFail (D.disk disk.old).faults (D.disk disk.new).faults (λ fault. IsErrOf result (FilesError.Failed fault)) }
     ensures causes { OnErr result (((fault : ℕ) × IsErrOf result (FilesError.Failed fault)) ⊎ ((file : ℕ) × (offset : ℕ) × IsErrOf result (FilesError.NotAFile file offset)) ⊎ IsErrOf result FilesError.NoMemory) }
 {
     see_regions(alloc, disk, directory.regions(), generation_in(records) + 2)

@@ -1,6 +1,6 @@
 //! What the records of a site stand for.
-ghost use Rattle.std.specs.Prelude.{◌≡◌, ◌⊎◌, ◌≤◌, ◌<◌, ◌*◌, ◌^◌, ℕ, List, length, map, IfOk, IfSome, OnErr, IsErrOf};
-ghost use Rattle.disk_defs.specs.Disk.{Reads, Rose};
+ghost use Rattle.std.specs.Prelude.{◌≡◌, ◌⊎◌, ◌<◌, ◌*◌, ◌^◌, ℕ, List, length, map, IfOk, IfSome, OnErr, IsErrOf};
+ghost use Rattle.disk_defs.specs.Disk.{Reads, MayFail};
 ghost use Rattle.global_defs.specs.Entry.{Sequence};
 ghost use Rattle.journal_defs.specs.Instance.{site_name};
 ghost use Rattle.journal_defs.specs.Broken as texts;
@@ -54,9 +54,7 @@ fn index_of<D: Disk>(alloc: Global, disk: &mut D, read: &ReadSite) -> Result<Ent
     ensures placed { IfOk result (λ made. ArePlaced read.now.log.records (map (λ s. s.items) read.now.signs.items) made) }
     ensures outside { (file offset : ℕ) → IsErrOf result (FilesError.NotAFile file offset) → IfSome (D.disk disk.old).content (λ files. (journal : ℕ → List Placed) → AreSigns files (map (λ s. s.items) read.now.signs.items) journal → ⊥) }
     ensures reads { Reads (D.disk disk.old) (D.disk disk.new) }
-    ensures later { (D.disk disk.old).faults ≤ (D.disk disk.new).faults }
-    ensures count { (fault : ℕ) → IsErrOf result (FilesError.Failed fault) → fault ≡ (D.disk disk.new).faults }
-    ensures cause { (fault : ℕ) → IsErrOf result (FilesError.Failed fault) → Rose (D.disk disk.old).faults (D.disk disk.new).faults }
+    ensures faults { MayFail (D.disk disk.old).faults (D.disk disk.new).faults (λ fault. IsErrOf result (FilesError.Failed fault)) }
     ensures causes { OnErr result (((fault : ℕ) × IsErrOf result (FilesError.Failed fault)) ⊎ ((file : ℕ) × (offset : ℕ) × IsErrOf result (FilesError.NotAFile file offset)) ⊎ IsErrOf result FilesError.NoMemory) }
 {
     let log = &read.log;
@@ -77,9 +75,7 @@ fn broken_text<D: Disk>(
         → made ≡ texts.broken_text (site_name read.now.log.records) length (texts.broken (record { instance = read.now.log.records; journal = journal }) length))) }
     ensures outside { (file offset : ℕ) → IsErrOf result (FilesError.NotAFile file offset) → IfSome (D.disk disk.old).content (λ files. (journal : ℕ → List Placed) → AreSigns files (map (λ s. s.items) read.now.signs.items) journal → ⊥) }
     ensures reads { Reads (D.disk disk.old) (D.disk disk.new) }
-    ensures later { (D.disk disk.old).faults ≤ (D.disk disk.new).faults }
-    ensures count { (fault : ℕ) → IsErrOf result (FilesError.Failed fault) → fault ≡ (D.disk disk.new).faults }
-    ensures cause { (fault : ℕ) → IsErrOf result (FilesError.Failed fault) → Rose (D.disk disk.old).faults (D.disk disk.new).faults }
+    ensures faults { MayFail (D.disk disk.old).faults (D.disk disk.new).faults (λ fault. IsErrOf result (FilesError.Failed fault)) }
     ensures causes { OnErr result (((fault : ℕ) × IsErrOf result (FilesError.Failed fault)) ⊎ ((file : ℕ) × (offset : ℕ) × IsErrOf result (FilesError.NotAFile file offset)) ⊎ IsErrOf result FilesError.NoMemory) }
 {
     let past = read_past(alloc, disk, &read.signs, length)?;
@@ -107,9 +103,7 @@ pub fn remember_all<D: Disk>(
     ensures rows { IfOk result (λ made. (n : ℕ) × (length made.entries.places.items ≡ made.entries.regions * n)) }
     ensures outside { (file offset : ℕ) → IsErrOf result (FilesError.NotAFile file offset) → IfSome (D.disk disk.old).content (λ files. (journal : ℕ → List Placed) → AreSigns files (map (λ s. s.items) read.now.signs.items) journal → ⊥) }
     ensures reads { Reads (D.disk disk.old) (D.disk disk.new) }
-    ensures later { (D.disk disk.old).faults ≤ (D.disk disk.new).faults }
-    ensures count { (fault : ℕ) → IsErrOf result (FilesError.Failed fault) → fault ≡ (D.disk disk.new).faults }
-    ensures cause { (fault : ℕ) → IsErrOf result (FilesError.Failed fault) → Rose (D.disk disk.old).faults (D.disk disk.new).faults }
+    ensures faults { MayFail (D.disk disk.old).faults (D.disk disk.new).faults (λ fault. IsErrOf result (FilesError.Failed fault)) }
     ensures causes { OnErr result (((fault : ℕ) × IsErrOf result (FilesError.Failed fault)) ⊎ ((file : ℕ) × (offset : ℕ) × IsErrOf result (FilesError.NotAFile file offset)) ⊎ IsErrOf result FilesError.NoMemory) }
 {
     let entries = index_of(alloc, disk, read)?;
@@ -134,9 +128,7 @@ pub fn count_entries<D: Disk>(
         → (seq : Sequence) × IsSequence u seq × (n ≡ length seq))) }
     ensures outside { (file offset : ℕ) → IsErrOf result (FilesError.NotAFile file offset) → IfSome (D.disk disk.old).content (λ files. (journal : ℕ → List Placed) → AreSigns files (map (λ s. s.items) read.now.signs.items) journal → ⊥) }
     ensures reads { Reads (D.disk disk.old) (D.disk disk.new) }
-    ensures later { (D.disk disk.old).faults ≤ (D.disk disk.new).faults }
-    ensures count { (fault : ℕ) → IsErrOf result (FilesError.Failed fault) → fault ≡ (D.disk disk.new).faults }
-    ensures cause { (fault : ℕ) → IsErrOf result (FilesError.Failed fault) → Rose (D.disk disk.old).faults (D.disk disk.new).faults }
+    ensures faults { MayFail (D.disk disk.old).faults (D.disk disk.new).faults (λ fault. IsErrOf result (FilesError.Failed fault)) }
     ensures causes { OnErr result (((fault : ℕ) × IsErrOf result (FilesError.Failed fault)) ⊎ ((file : ℕ) × (offset : ℕ) × IsErrOf result (FilesError.NotAFile file offset)) ⊎ IsErrOf result FilesError.NoMemory) }
 {
     let entries = index_of(alloc, disk, read)?;

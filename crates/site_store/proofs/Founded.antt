@@ -17,7 +17,7 @@ use Rattle.site_defs.specs.Stands.{IsSite, Stands}
 use Rattle.site_defs.specs.OutsideBlocks.{IsOutsideOpening, HaveOutsideBlocks, whole}
 use Rattle.site_files.specs.Loading.{AreRead, last_of, next_cut}
 use Rattle.site_files.proofs.Kept.{image_read}
-use Rattle.site_regions.specs.Joined.{Joined, joined}
+use Rattle.region_store.specs.Joined.{Joined, joined}
 use Rattle.site_store.specs.declared.preparing.FoundFiles.{FoundFiles}
 use Rattle.site_store.specs.declared.preparing.StandingSite.{StandingSite}
 use Rattle.site_store.specs.declared.error.SiteError.{SiteError}

@@ -42,9 +42,9 @@ use Rattle.entry_index.specs.declared.index.EntryIndex.{EntryIndex}
 use Rattle.entry_index.specs.Found.{entry_count, IsWhole}
 use Rattle.entry_index.specs.Among.{IsIndexOf}
 use Rattle.entry_index.proofs.AmongLaws.{index_behind}
-use Rattle.site_regions.specs.Joined.{IsSameElsewhere, region_at, no_region}
-use Rattle.site_regions.proofs.Lists.{there}
-use Rattle.site_regions.proofs.Making.{region_there}
+use Rattle.region_store.specs.Joined.{IsSameElsewhere, region_at, no_region}
+use Rattle.region_store.proofs.Lists.{there}
+use Rattle.region_store.proofs.Making.{region_there}
 use Rattle.site_defs.specs.Contents.{Contents, NO_LEFTOVER}
 use Rattle.site_defs.specs.Fronts.{with_sequence}
 use Rattle.site_defs.specs.Stands.{IsSite, HasLeft}

@@ -4,8 +4,8 @@ use Rattle.std.proofs.lemmas.Bool.{cases_lt}
 use Rattle.disk_defs.specs.Disk.{Files}
 use Rattle.journal_defs.specs.Instance.{InstanceRecord, regions}
 use Rattle.journal_defs.specs.Sequence.{Placed}
-use Rattle.jnl_index.specs.declared.placed.PlacedSign.{PlacedSign}
-use Rattle.jnl_index.specs.Places.{AreSignsOf}
+use Rattle.entry_index.specs.declared.placed.PlacedSign.{PlacedSign}
+use Rattle.entry_index.specs.Places.{AreSignsOf}
 use Rattle.entry_index.specs.Signs.{signs_of}
 use Rattle.entry_index.specs.Indexes.{AreSigns}
 use Rattle.region_opening.specs.declared.needing.WithoutImages.{WithoutImages}

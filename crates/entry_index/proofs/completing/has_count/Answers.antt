@@ -2,7 +2,7 @@ use Rattle.std.proofs.Common.{◌≡◌, ℕ, length, take, List, sym, ◌∙◌
 use Rattle.std.proofs.lemmas.Bool.Decides.{nat_tests}
 use Rattle.std.specs.List.{flat_map}
 use Rattle.journal_defs.specs.Sequence.{REGIONS}
-use Rattle.jnl_index.specs.declared.sign.Span.{Span}
+use Rattle.entry_index.specs.declared.sign.Span.{Span}
 use Rattle.mupip_recover.specs.Parts.{items_at}
 use Rattle.mupip_recover.proofs.RegionLists.{count_more, count_over}
 use Rattle.entry_index.specs.Table.{sign_at}

@@ -1,5 +1,5 @@
 use Rattle.std.proofs.Common.{Option, sym, ◌∙◌, subst}
-use Rattle.entry_index.specs.declared.sign.PartSign.{PartSign}
+use Rattle.entry_index.specs.declared.signed_part.PartSign.{PartSign}
 use Rattle.entry_index.specs.Signs.{IsSign}
 use Rattle.entry_index.proofs.Complete.{told_by_part, told_alone, no_part_there}
 use Rattle.entry_index.proofs.completing.told_in.Goals as goal

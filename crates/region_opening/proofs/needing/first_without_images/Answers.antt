@@ -1,5 +1,5 @@
 use Rattle.std.proofs.Common.{Vec, Global, map}
-use Rattle.jnl_index.specs.declared.placed.PlacedSign.{PlacedSign}
+use Rattle.entry_index.specs.declared.placed.PlacedSign.{PlacedSign}
 use Rattle.region_opening.proofs.Needs.{none_yet, none_more}
 use Rattle.region_opening.proofs.needing.first_without_images.Goals as goal
 

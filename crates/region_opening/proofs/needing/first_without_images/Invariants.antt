@@ -1,6 +1,6 @@
 use Rattle.std.proofs.Common.{ℕ, List, Vec, Global, map}
 use Rattle.journal_defs.specs.Sequence.{Placed}
-use Rattle.jnl_index.specs.declared.placed.PlacedSign.{PlacedSign}
+use Rattle.entry_index.specs.declared.placed.PlacedSign.{PlacedSign}
 use Rattle.region_opening.specs.Signs.{AllSay}
 use Rattle.region_opening.specs.Forward.{NoneNeeds}
 use Rattle.region_opening.proofs.needing.first_without_images.Given as goal

@@ -5,7 +5,7 @@ use Rattle.disk_defs.proofs.Moments.{nothing_new}
 use Rattle.disk_defs.proofs.Told.{told_at}
 use Rattle.std.specs.List.{AllByRecursion}
 use Rattle.std.proofs.lemmas.List.{length-map}
-use Rattle.jnl_index.specs.declared.placed.PlacedSign.{PlacedSign}
+use Rattle.entry_index.specs.declared.placed.PlacedSign.{PlacedSign}
 use Rattle.global_dir.specs.Directory.{Mapping}
 use Rattle.journal_defs.specs.Instance.{InstanceRecord, generation, regions}
 use Rattle.journal_defs.specs.Directory.{Pattern, patterns}

@@ -5,7 +5,7 @@ use Rattle.global_defs.specs.Entry.{Sequence}
 use Rattle.journal_defs.specs.Instance.{InstanceRecord}
 use Rattle.journal_defs.specs.Sequence.{Placed, Records, IsSequence}
 use Rattle.journal_defs.specs.Surviving.{reigns}
-use Rattle.jnl_index.specs.declared.placed.PlacedSign.{PlacedSign}
+use Rattle.entry_index.specs.declared.placed.PlacedSign.{PlacedSign}
 use Rattle.entry_index.specs.Indexes.{AreSigns, Indexes}
 use Rattle.entry_index.specs.Parts.{InFiles}
 use Rattle.site_files.specs.declared.error.FilesError.TheVariants.{NotAFile}

@@ -10,7 +10,7 @@ use Rattle.journal_defs.specs.Instance.{InstanceRecord, site_name}
 use Rattle.journal_defs.specs.Sequence.{Placed, Records, IsSequence}
 use Rattle.journal_defs.specs.Stands.{AreRecords}
 use Rattle.journal_defs.specs.Surviving.{reigns}
-use Rattle.jnl_index.specs.declared.placed.PlacedSign.{PlacedSign}
+use Rattle.entry_index.specs.declared.placed.PlacedSign.{PlacedSign}
 use Rattle.entry_index.specs.Among.{IsIndexOf, AreAllInOrder}
 use Rattle.entry_index.specs.Found.{AreFound, entry_count}
 use Rattle.entry_index.specs.Indexes.{AreSigns, Indexes}

@@ -9,7 +9,7 @@ use Rattle.journal_defs.specs.Sequence.{Placed, Records, IsSequence}
 use Rattle.journal_defs.specs.Stands.{AreRecords}
 use Rattle.journal_defs.specs.Instance.{InstanceRecord}
 use Rattle.journal_defs.specs.Surviving.{reigns}
-use Rattle.jnl_index.specs.declared.placed.PlacedSign.{PlacedSign}
+use Rattle.entry_index.specs.declared.placed.PlacedSign.{PlacedSign}
 use Rattle.entry_index.specs.Indexes.{AreSigns}
 use Rattle.site_defs.specs.Contents.{Contents}
 use Rattle.site_defs.specs.Outside.{IsOutsideRecords}

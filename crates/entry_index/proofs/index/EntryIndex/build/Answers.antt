@@ -18,7 +18,7 @@ use Rattle.entry_index.proofs.Signed.{signed, none_past}
 use Rattle.entry_index.proofs.Runs.{IsRun, no_rows, row_added, run_ended, whole_run, next_by_signs}
 use Rattle.entry_index.proofs.index.EntryIndex.build.Goals as goal
 use Rattle.entry_index.specs.Parts.{InFiles}
-use Rattle.entry_index.proofs.Placed.{none_placed, placed_more, placed_same}
+use Rattle.entry_index.proofs.PlacedParts.{none_placed, placed_more, placed_same}
 use Rattle.entry_index.specs.Completing.{place_told}
 
 pub loop-place-init : goal.loop-place-init
@@ -70,7 +70,7 @@ loop-place-preserved g c =
           (next_by_signs files signs records a.instance.now rs l.made.regions l.place (sign_at table l.place) more old new are (c.as_slice-reigns.ensures ∙ c.requires.history) (inv.regions ∙ sym (length-map a.signs.now (λ s. s.items)))
           (λ r. c.in_ok-table.ensures.parts a.instance.now c.in_ok-cuts.ensures l.place r (omega arith)) (λ part at past. next part at past rs starts))));
       reads = reads_more (view a.disk.now) (view l.disk) (view c.add_row.new.disk) (g.met.D.Disk.lawful a.disk.now) inv.reads c.add_row.ensures.reads;
-      faults = omega (arith, inv.faults, c.add_row.ensures.later);
+      faults = omega (arith, inv.faults, c.add_row.ensures.faults.later);
     }
 
 pub returns-then-not-more-clause-sequence : goal.returns-then-not-more-clause-sequence
