@@ -1,6 +1,6 @@
 //! Which blocks were imaged.
 ghost use Rattle.std.specs.Prelude.{◌≡◌, ◌≤◌, ◌+◌, ◌*◌, ◌++◌, ◌∷◌, List, [], true, false, length, replicate, IfOk, OnOk, OnErr, IsErrOf, IfSome, MatchBool};
-ghost use Rattle.disk_defs.specs.Disk.{Reads, Rose};
+ghost use Rattle.disk_defs.specs.Disk.{Reads, MayFailUncounted};
 ghost use Rattle.journal_defs.specs.Journal.{Before};
 ghost use Rattle.journal_defs.specs.Epochs.{Chosen, block_of};
 ghost use Rattle.journal_defs.specs.Undo.{MayWrite};
@@ -96,8 +96,7 @@ impl Imaged {
         ensures logged { OnOk result (IfSome (D.disk disk.old).content (λ files. L.images log.new ≡ L.images log.old ++ first_image self.now block (block_of (files file) block))) }
         ensures none { OnErr result (L.images log.new ≡ L.images log.old) }
         ensures reads { Reads (D.disk disk.old) (D.disk disk.new) }
-        ensures later { (D.disk disk.old).faults ≤ (D.disk disk.new).faults }
-        ensures cause { IsErrOf result ImageError.Failed → Rose (D.disk disk.old).faults (D.disk disk.new).faults }
+        ensures faults { MayFailUncounted (D.disk disk.old).faults (D.disk disk.new).faults (IsErrOf result ImageError.Failed) }
     {
         if self.may_write(block) {
             return Ok(());
@@ -126,8 +125,7 @@ impl Imaged {
         ensures err { OnErr result (self.new ≡ self.old) }
         ensures none { OnErr result (L.images log.new ≡ L.images log.old) }
         ensures reads { Reads (D.disk disk.old) (D.disk disk.new) }
-        ensures later { (D.disk disk.old).faults ≤ (D.disk disk.new).faults }
-        ensures cause { IsErrOf result ImageError.Failed → Rose (D.disk disk.old).faults (D.disk disk.new).faults }
+        ensures faults { MayFailUncounted (D.disk disk.old).faults (D.disk disk.new).faults (IsErrOf result ImageError.Failed) }
     {
         self.log_image(disk, file, block, log)?;
         self.mark(block);

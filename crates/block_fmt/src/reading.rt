@@ -1,15 +1,14 @@
 //! Cells read from bytes that may be others.
 ghost use Rattle.std.specs.Prelude.{◌≡◌, ◌≤◌, ◌<◌, ◌+◌, ◌↔◌, length, drop, vec_capacity, IfSome, IfNone, IfOk, IsTrue};
 ghost use Rattle.std.specs.Bool.{OnTrue};
-ghost use Rattle.key_code.specs.Next.{Tells};
+ghost use Rattle.gvn_key.specs.Next.{Tells};
 ghost use Rattle.journal_defs.specs.Leaves.{spelled_cell};
 ghost use Rattle.block_fmt.specs.Read.{first_cell, cells_in, places, BeginWithCell, AreCells, IsNextCell};
 
 use crate::bytes::number_at;
 use crate::cells::key_at;
 use crate::sizes::{LONGEST_VALUE, MOST_CELLS};
-use gvn_key::NoMemory;
-use key_code::{Seen, first_key, next_key};
+use gvn_key::{NoMemory, Seen, first_key, next_key};
 use std::alloc::Global;
 
 /// How many bytes the cell has that these bytes begin with, `None` where they begin with no cell.

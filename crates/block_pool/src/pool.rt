@@ -1,7 +1,7 @@
 //! The blocks of a file.
 ghost use Rattle.std.specs.Prelude.{◌≡◌, ◌≤◌, ◌<◌, ◌+◌, ◌*◌, ◌∷◌, ◌++◌, [], List, Bool, true, false, length, map, replicate, slice_index_or, slice_set, vec_len, vec_capacity, if◌then◌else◌, IsOk, OnOk, OnErr, IsErrOf, IfSome};
 ghost use Rattle.std.specs.Borrow.{sem};
-ghost use Rattle.disk_defs.specs.Disk.{Image, From, OnFile, AtEachMoment, ReadsAfter, HasCause, Rose, written, Torn, Passes, RoomUsed};
+ghost use Rattle.disk_defs.specs.Disk.{Image, From, OnFile, AtEachMoment, ReadsAfter, HasCause, MayFailUncounted, written, Torn, Passes, RoomUsed};
 ghost use Rattle.disk_defs.specs.Frames.{Only, OthersStay};
 ghost use Rattle.journal_defs.specs.Leaves.{IsLeaf, spelled_leaf};
 ghost use Rattle.block_pool.specs.Pool.{leaf_at, is_dirty, marked, changed, IsAdded, cleaned, CleanStand, AllStand, StandBelow, ChangesDirty, numbers_from, dirty_numbers, dirty_from, WritesDirty};
@@ -296,8 +296,7 @@ impl BlockPool {
         ensures content { ReadsAfter (OnFile file (ChangesDirty self.old)) (D.disk disk.old).content (D.disk disk.new).content }
         ensures any_moment { AtEachMoment (D.disk disk.old) (D.disk disk.new) (From (Image (D.disk disk.old)) (OnFile file (ChangesDirty self.old))) }
         ensures frame { OthersStay (Only file) (D.disk disk.old) (D.disk disk.new) }
-        ensures later { (D.disk disk.old).faults ≤ (D.disk disk.new).faults }
-        ensures cause { IsErrOf result PoolError.Failed → Rose (D.disk disk.old).faults (D.disk disk.new).faults }
+        ensures faults { MayFailUncounted (D.disk disk.old).faults (D.disk disk.new).faults (IsErrOf result PoolError.Failed) }
         ensures no_memory { IsErrOf result PoolError.NoMemory → (D.disk disk.new).content ≡ (D.disk disk.old).content }
     {
         let dirty = self.count_dirty();

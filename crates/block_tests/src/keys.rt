@@ -1,6 +1,6 @@
 //! Keys read one behind another.
 use crate::cells::code;
-use key_code::{Seen, first_key, next_key};
+use gvn_key::{Seen, first_key, next_key};
 use std::alloc::Global;
 use std::process::Abort;
 use std::test::Fail;

@@ -86,6 +86,17 @@ pub record HasCause {T E : Type 0} (before now : ℕ) (result : Result T E) : Ty
   pub later : before ≤ now
   pub failed : OnErr result (Rose before now)
 
+-- the count doesn't fall, and the call fails only where it rose, with the count as it is then
+pub record MayFail (old new : ℕ) (failed : ℕ → Type 0) : Type 0 where
+  pub later : old ≤ new
+  pub count : (fault : ℕ) → failed fault → fault ≡ new
+  pub cause : (fault : ℕ) → failed fault → Rose old new
+
+-- the same where the error doesn't carry the count
+pub record MayFailUncounted (old new : ℕ) (failed : Type 0) : Type 0 where
+  pub later : old ≤ new
+  pub cause : failed → Rose old new
+
 -- what reads give changes by a step, where the disk tells it
 abbrev pub ReadsAfter : (Files → Files → Type 0) → Option Files → Option Files → Type 0
 ReadsAfter step None new = new ≡ None

@@ -1,3 +1,4 @@
 pub mod Disk
 pub mod Frames
 pub mod Gates
+pub mod OutsideGates

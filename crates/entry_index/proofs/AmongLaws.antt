@@ -1,30 +1,26 @@
 -- What a crate above may cite of places among records: records that come behind leave them, they stand in files, and an index counts its entries.
-use Rattle.std.proofs.Common.{◌≡◌, inl, inr, ℕ, zero, suc, ◌+◌, ◌*◌, ◌/◌, ◌==◌, ◌≤◌, ◌<◌, ◌&&◌, nat_le, Bool, true, false, List, [], ◌∷◌, ◌++◌, length, take, slice_get, get_or, Option, Some, None, refl, sym, ◌∙◌, ap, subst, arith, if◌then◌else◌}
-use Rattle.std.specs.List.{AllByRecursion, AllZip}
+use Rattle.std.proofs.Common.{◌≡◌, ℕ, zero, suc, ◌+◌, ◌*◌, ◌/◌, ◌==◌, ◌≤◌, ◌<◌, ◌&&◌, nat_le, Bool, true, false, List, [], ◌∷◌, ◌++◌, length, take, slice_get, Option, Some, None, refl, sym, ◌∙◌, ap, subst, arith, if◌then◌else◌}
 use Rattle.std.specs.Option.{option_or}
 use Rattle.std.proofs.Math.Nat.{mul-div_cancel_left, mul-le-mul_left}
-use Rattle.std.proofs.lemmas.Bool.{cases_lt}
 use Rattle.std.proofs.lemmas.Bool.Decides.{nat_tests}
 use Rattle.std.proofs.lemmas.List.{take-append-le}
 use Rattle.std.proofs.lemmas.Option.{slice_get_within}
 use Rattle.disk_defs.specs.Disk.{Files}
-use Rattle.global_defs.specs.Entry.{Reign, Stamp, Entry, Sequence}
+use Rattle.global_defs.specs.Entry.{Reign, Stamp, Sequence}
 use Rattle.global_defs.specs.Prefix.{stamp_at}
 use Rattle.journal_defs.specs.Instance.{InstanceRecord}
 use Rattle.journal_defs.specs.Journal.{JournalRecord, Tcom, Part}
 use Rattle.journal_defs.specs.Numbers.{journal_file}
 use Rattle.journal_defs.specs.Sequence.{Placed, entry_with}
-use Rattle.journal_defs.specs.Stands.{IsJournal}
 use Rattle.journal_defs.specs.Surviving.{survives}
-use Rattle.jnl_index.specs.Places.{StandsAt, IsSignOf, AreSignsOf}
-use Rattle.jnl_index.specs.Order.{IsAmong, StandUpTo, bytes_in}
-use Rattle.jnl_index.specs.declared.placed.PlacedSign.{PlacedSign}
-use Rattle.jnl_index.specs.declared.sign.Sign.{Sign}
-use Rattle.jnl_index.specs.declared.sign.Sign.TheVariants.{Pini, Epoch, Pblk, Tcom as TcomSign}
-use Rattle.jnl_index.proofs.Order.{up_to}
-use Rattle.jnl_index.proofs.Stands.{one_stands}
+use Rattle.entry_index.specs.Places.{StandsAt, IsSignOf, AreSignsOf}
+use Rattle.entry_index.specs.Order.{IsAmong, bytes_in}
+use Rattle.entry_index.specs.declared.placed.PlacedSign.{PlacedSign}
+use Rattle.entry_index.specs.declared.sign.Sign.{Sign}
+use Rattle.entry_index.specs.declared.sign.Sign.TheVariants.{Pini, Epoch, Pblk, Tcom as TcomSign}
+use Rattle.entry_index.proofs.Stands.{one_stands}
 use Rattle.entry_index.specs.declared.place.PartPlace.{PartPlace}
-use Rattle.entry_index.specs.declared.sign.PartSign.{PartSign}
+use Rattle.entry_index.specs.declared.signed_part.PartSign.{PartSign}
 use Rattle.entry_index.specs.declared.index.EntryIndex.{EntryIndex}
 use Rattle.entry_index.specs.Parts.{InFiles, InJournals, IsPartAt}
 use Rattle.entry_index.specs.Signs.{part_said, part_sign_in, if_numbered, if_surviving, sign_in, last_sign, signs_of}
@@ -32,7 +28,7 @@ use Rattle.entry_index.specs.Completing.{place_told}
 use Rattle.entry_index.specs.Indexes.{place_of, Indexes, AreSigns}
 use Rattle.entry_index.specs.Among.{IsIndexOf, AreAllInOrder, ArePlaced}
 use Rattle.entry_index.specs.Found.{entry_count, IsWhole}
-use Rattle.entry_index.proofs.Laws.{moved, elsewhere}
+use Rattle.entry_index.proofs.IndexLaws.{moved, elsewhere}
 
 got_front : {X : Type 0} (xs ys : List X) (k : ℕ) (x : X) → slice_get xs k ≡ Some x → slice_get (xs ++ ys) k ≡ Some x
 got_front [] ys k x is = absurd (cc is)
@@ -94,37 +90,6 @@ counts_entries journal rs index seq some is = counted index (length seq) some is
 
 pub whole_rows : (index : EntryIndex) (n : ℕ) → 1 ≤ index.regions → length index.places.items ≡ index.regions * n → IsWhole index
 whole_rows index n some rows = rows ∙ ap (λ (k : ℕ). index.regions * k) (sym (counted index n some rows))
-
--- the sign of a record, by its place
-sign_at : (files : Files) (r : ℕ) (signs : List PlacedSign) (js : List Placed) (k : ℕ) (p : Placed) → AreSignsOf files r signs js → slice_get js k ≡ Some p → (s : PlacedSign) × (slice_get signs k ≡ Some s) × IsSignOf files r s p
-sign_at files r [] [] k p all there = absurd (cc there)
-sign_at files r [] (q ∷ js) k p all there = absurd all
-sign_at files r (s ∷ signs) [] k p all there = absurd all
-sign_at files r (s ∷ signs) (q ∷ js) zero p all there = let same : q ≡ p = cc there in (s, refl, subst (IsSignOf files r s) same all.0)
-sign_at files r (s ∷ signs) (q ∷ js) (suc k) p all there = sign_at files r signs js k p all.1 there
-
-drawn_at : (js : List Placed) (k : ℕ) (p : Placed) → AllByRecursion (λ p. (1 ≤ p.generation) × (p.generation ≤ 65535)) js → slice_get js k ≡ Some p → 1 ≤ p.generation
-drawn_at [] k p all there = absurd (cc there)
-drawn_at (q ∷ js) zero p all there = let same : q ≡ p = cc there in subst (λ (x : Placed). 1 ≤ x.generation) same all.0.0
-drawn_at (q ∷ js) (suc k) p all there = drawn_at js k p all.1 there
-
--- records stand where their signs say, at their places
-pub signs_stand : (files : Files) (signs : List (List PlacedSign)) (journal : ℕ → List Placed) (r h last : ℕ) → AreSigns files signs journal → AreAllInOrder signs journal → IsJournal files r h last (journal r) → StandUpTo files r h (journal r)
-signs_stand files signs journal r h last are ordered is g o x among = elim (cases_lt r (length signs)) [
-  | inl low ↦
-      let p : Placed = record { generation = g; what = x } in
-      let s = sign_at files r (get_or signs r []) (journal r) among.place p (are.each r low) among.there in
-      let offset : s.0.offset ≡ o = ordered r low among.place s.0 s.1 ∙ ap (λ (k : ℕ). bytes_in k (take among.place (journal r))) s.2.generation ∙ sym among.offset_is in (
-        drawn_at (journal r) among.place p (are.generations r low) among.there,
-        up_to files r h last (journal r) among.place p is among.there,
-        subst (λ (k : ℕ). StandsAt (files (journal_file g r)) k x) offset s.2.stands,
-      )
-  | inr past ↦ absurd (none_past (journal r) among.place (record { generation = g; what = x }) (are.no_more r past) among.there)
-]
-  where
-    none_past : (js : List Placed) (k : ℕ) (p : Placed) → js ≡ [] → slice_get js k ≡ Some p → ⊥
-    none_past [] k p none there = cc there
-    none_past (q ∷ js) k p none there = cc none
 
 -- the sign that tells a part's place
 chosen : (b : Bool) (o : Option PartSign) (s : PartSign) → (if b then o else None) ≡ Some s → o ≡ Some s

@@ -1,9 +1,9 @@
 -- Whether a reign has begun by an entry.
-use Rattle.std.proofs.Common.{◌≡◌, inl, inr, ℕ, zero, ◌<◌, ◌&&◌, min, nat_le, Bool, true, false, List, [], ◌∷◌, length, map, get_or, Option, Some, None, is_some, refl, sym, ◌∙◌, ap, arith, if◌then◌else◌}
+use Rattle.std.proofs.Common.{◌≡◌, inl, inr, ℕ, ◌<◌, min, nat_le, Bool, true, false, List, [], ◌∷◌, length, map, get_or, Option, Some, None, is_some, refl, sym, ◌∙◌, ap, arith, if◌then◌else◌}
 use Rattle.std.proofs.lemmas.Bool.{cases_lt}
 use Rattle.std.proofs.lemmas.Bool.Decides.{nat_tests}
 use Rattle.std.specs.Option.{option_or}
-use Rattle.global_defs.specs.Entry.{Reign, Stamp}
+use Rattle.global_defs.specs.Entry.{Reign}
 use Rattle.global_defs.specs.Prefix.{stamp_at}
 use Rattle.mupip_recover.specs.Minima.{lesser, first_of, minima}
 use Rattle.mupip_recover.specs.Stamps.{AreStarts}

@@ -6,8 +6,8 @@ use Rattle.std.specs.Option.{option_or}
 use Rattle.std.proofs.lemmas.Simd.{map-map}
 use Rattle.std.proofs.Math.ListN.{get_or-map}
 use Rattle.journal_defs.specs.Instance.{InstanceRecord}
-use Rattle.jnl_index.specs.declared.placed.PlacedSign.{PlacedSign}
-use Rattle.entry_index.specs.declared.sign.PartSign.{PartSign}
+use Rattle.entry_index.specs.declared.placed.PlacedSign.{PlacedSign}
+use Rattle.entry_index.specs.declared.signed_part.PartSign.{PartSign}
 use Rattle.journal_defs.specs.Surviving.{survives}
 use Rattle.entry_index.specs.Signs.{part_sign_in, if_numbered, if_surviving, sign_in, last_sign, signs_of}
 

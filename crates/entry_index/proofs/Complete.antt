@@ -1,12 +1,12 @@
 -- What signs tell of the completeness of entries.
-use Rattle.std.proofs.Common.{◌≡◌, ℕ, suc, ◌+◌, ◌≤◌, ◌<◌, ◌==◌, ◌&&◌, ◌||◌, not, Bool, true, false, List, [], ◌∷◌, ◌++◌, length, take, drop, get_or, Option, Some, None, IsSome, is_some, refl, sym, ◌∙◌, ap, subst, arith, if◌then◌else◌}
+use Rattle.std.proofs.Common.{◌≡◌, ℕ, zero, suc, ◌+◌, ◌≤◌, ◌<◌, ◌==◌, ◌&&◌, ◌||◌, not, Bool, true, false, List, [], ◌∷◌, ◌++◌, length, take, drop, get_or, Option, Some, None, IsSome, is_some, refl, sym, ◌∙◌, ap, subst, arith, if◌then◌else◌}
 use Rattle.std.proofs.Math.Path.{fun_ext}
 use Rattle.std.proofs.lemmas.Bool.Decides.{nat_tests}
 use Rattle.std.proofs.lemmas.List.{drop_all, take_all}
 use Rattle.std.specs.List.{list_all}
-use Rattle.std.specs.Option.{option_map, option_and_then}
+use Rattle.std.specs.Option.{option_or, option_map, option_and_then}
 use Rattle.disk_defs.specs.Disk.{Files}
-use Rattle.global_defs.specs.Entry.{Origin, Stamp, Reign}
+use Rattle.global_defs.specs.Entry.{Entry, Origin, Stamp, Reign}
 use Rattle.global_defs.specs.Prefix.{stamp_at}
 use Rattle.journal_defs.specs.Journal.{Item, Part}
 use Rattle.journal_defs.specs.Sequence.{REGIONS, in_mask, is_like, items_of, items_in, updates_from, updates_of, updates_by, entry_by, entry_among, entry_with}
@@ -17,9 +17,9 @@ use Rattle.mupip_recover.specs.Slots.{next_after, is_at}
 use Rattle.mupip_recover.specs.Parts.{items_at}
 use Rattle.mupip_recover.proofs.InOrder.{by_order}
 use Rattle.mupip_recover.proofs.Completion.{among_found}
-use Rattle.jnl_index.specs.Signs.{first_of, is_row, span_of}
-use Rattle.jnl_index.specs.declared.sign.Span.{Span}
-use Rattle.entry_index.specs.declared.sign.PartSign.{PartSign}
+use Rattle.entry_index.specs.RecordSigns.{first_of, is_row, span_of}
+use Rattle.entry_index.specs.declared.sign.Span.{Span}
+use Rattle.entry_index.specs.declared.signed_part.PartSign.{PartSign}
 use Rattle.entry_index.specs.declared.completing.Told.{Told}
 use Rattle.entry_index.specs.declared.completing.Told.TheVariants.{Complete, Broken, Unsure}
 use Rattle.entry_index.specs.declared.place.PartPlace.{PartPlace}
@@ -202,3 +202,20 @@ no_next files reigns n part s old begun is = (refl, sym (ap (entry_with part) be
 -- no reign has begun by then
 pub not_begun : (files : Files) (reigns : List Reign) (n : ℕ) (part : ℕ → Option Part) (old : List PartPlace) → is_some (stamp_at n reigns) ≡ false → IsNext files reigns n part false old old
 not_begun files reigns n part old none = (refl, ap (entry_with part) (none_there (stamp_at n reigns) (sym none)))
+
+some_or : {X : Type 0} (a b : Option X) → IsSome b → IsSome (option_or a b)
+some_or None b is = is
+some_or (Some x) b is = refl
+
+some_behind : (part : ℕ → Option Part) (stamp : Stamp) (k : ℕ) (rs : List ℕ) → IsSome (entry_among part stamp (drop k rs)) → IsSome (entry_among part stamp rs)
+some_behind part stamp zero rs is = is
+some_behind part stamp (suc k) [] is = is
+some_behind part stamp (suc k) (r ∷ rs) is = some_or (entry_in part stamp r) (entry_among part stamp rs) (some_behind part stamp k rs is)
+
+-- an entry with a part that is the only one of its entry is complete
+pub alone_complete : (files : Files) (n : ℕ) (part : ℕ → Option Part) (stamp : Stamp) (r : ℕ) (s : PartSign) → r < 8 → IsSign files r n (Some s) (part r) → IsAlone s r → IsSome (entry_among part stamp REGIONS)
+alone_complete files n part stamp r s low sign alone = some_behind part stamp r REGIONS (by (entry_in part stamp r) refl (told_alone files n part stamp r s low sign alone))
+  where
+    by : (o : Option Entry) → entry_in part stamp r ≡ o → IsSome o → IsSome (entry_among part stamp (drop r REGIONS))
+    by None is some = absurd (cc some)
+    by (Some e) is some = subst IsSome (sym (among_found part stamp r e low is)) refl

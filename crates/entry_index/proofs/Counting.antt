@@ -13,10 +13,10 @@ use Rattle.journal_defs.specs.Journal.{JournalRecord}
 use Rattle.journal_defs.specs.Sequence.{Placed, part_of}
 use Rattle.mupip_recover.specs.Parts.{is_part}
 use Rattle.mupip_recover.proofs.Counts.{has, numbers_in, none_among, length-all}
-use Rattle.jnl_index.specs.declared.placed.PlacedSign.{PlacedSign}
-use Rattle.jnl_index.specs.declared.sign.Sign.{Sign}
-use Rattle.jnl_index.specs.Places.{IsSignOf}
-use Rattle.jnl_index.specs.Signs.{sign_of}
+use Rattle.entry_index.specs.declared.placed.PlacedSign.{PlacedSign}
+use Rattle.entry_index.specs.declared.sign.Sign.{Sign}
+use Rattle.entry_index.specs.Places.{IsSignOf}
+use Rattle.entry_index.specs.RecordSigns.{sign_of}
 use Rattle.entry_index.specs.Signs.{part_said, is_part_sign}
 use Rattle.entry_index.specs.Indexes.{AreSigns}
 

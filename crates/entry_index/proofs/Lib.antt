@@ -1,6 +1,23 @@
+mod Chains
+mod Passing
+mod ItemLists
+mod Records
+pub mod Stands
+mod Cuts
+mod Indexing
+mod Thinning
+mod Readers
+mod Cursors
+mod SideBySide
+mod Built
+mod Syncing
+mod Adding
+mod Opened
+mod Heads
+pub mod Order
 pub mod Rows
 pub mod ReadParts
-pub mod Laws
+pub mod IndexLaws
 pub mod Alone
 pub mod Begun
 pub mod Columns
@@ -8,5 +25,7 @@ pub mod Signed
 pub mod Complete
 pub mod Counting
 pub mod Runs
-pub mod Placed
+pub mod PlacedParts
 pub mod AmongLaws
+pub mod Thin
+pub mod JournalStands

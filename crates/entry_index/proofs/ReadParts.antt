@@ -13,7 +13,7 @@ use Rattle.gvn_model.specs.declared.entry.Transaction.{Transaction}
 use Rattle.journal_defs.specs.Journal.{JournalRecord, Tcom, Part}
 use Rattle.journal_defs.specs.Numbers.{journal_file}
 use Rattle.journal_defs.specs.Sequence.{REGIONS, entry_among}
-use Rattle.jnl_index.specs.Places.{StandsAt}
+use Rattle.entry_index.specs.Places.{StandsAt}
 use Rattle.mupip_recover.specs.Entries.{stamped}
 use Rattle.mupip_recover.specs.Table.{part_in_column, part_at}
 use Rattle.mupip_recover.specs.declared.table.Table.{Table}

@@ -9,16 +9,16 @@ use Rattle.journal_defs.specs.Journal.{Part}
 use Rattle.journal_defs.specs.Surviving.{reigns}
 use Rattle.journal_defs.specs.Sequence.{Records, Placed, part_of, parts, entry, entry_with, EntriesFrom, IsSequence}
 use Rattle.mupip_recover.proofs.Runs.{more_run, no_more}
-use Rattle.jnl_index.specs.declared.placed.PlacedSign.{PlacedSign}
+use Rattle.entry_index.specs.declared.placed.PlacedSign.{PlacedSign}
 use Rattle.entry_index.specs.declared.place.PartPlace.{PartPlace}
-use Rattle.entry_index.specs.declared.sign.PartSign.{PartSign}
+use Rattle.entry_index.specs.declared.signed_part.PartSign.{PartSign}
 use Rattle.entry_index.specs.declared.index.EntryIndex.{EntryIndex}
 use Rattle.entry_index.specs.Parts.{InFiles, AreParts}
 use Rattle.entry_index.specs.Signs.{IsSign, last_sign, signs_of}
 use Rattle.entry_index.specs.Indexes.{Indexes, AreSigns, IsNext}
 use Rattle.entry_index.proofs.Complete.{some_of}
 use Rattle.entry_index.proofs.Counting.{numbers_of, none_of}
-use Rattle.entry_index.proofs.Laws.{first_rows, row_more}
+use Rattle.entry_index.proofs.IndexLaws.{first_rows, row_more}
 use Rattle.entry_index.proofs.Signed.{signed, none_past}
 
 -- an index of the same places

@@ -14,11 +14,11 @@ use Rattle.journal_defs.specs.Surviving.{survives}
 use Rattle.journal_defs.specs.Sequence.{Placed, part_in, part_of}
 use Rattle.mupip_recover.specs.Parts as parts
 use Rattle.mupip_recover.proofs.Columns.{counts_for}
-use Rattle.jnl_index.specs.declared.placed.PlacedSign.{PlacedSign}
-use Rattle.jnl_index.specs.declared.sign.Sign.{Sign}
-use Rattle.jnl_index.specs.Places.{StandsAt, IsSignOf}
-use Rattle.jnl_index.specs.Signs.{sign_of, span_of}
-use Rattle.entry_index.specs.declared.sign.PartSign.{PartSign}
+use Rattle.entry_index.specs.declared.placed.PlacedSign.{PlacedSign}
+use Rattle.entry_index.specs.declared.sign.Sign.{Sign}
+use Rattle.entry_index.specs.Places.{StandsAt, IsSignOf}
+use Rattle.entry_index.specs.RecordSigns.{sign_of, span_of}
+use Rattle.entry_index.specs.declared.signed_part.PartSign.{PartSign}
 use Rattle.entry_index.specs.Signs.{part_said, if_numbered, if_surviving, sign_in, last_sign, signs_of, Tells, IsSign}
 use Rattle.entry_index.specs.Indexes.{AreSigns}
 
@@ -59,7 +59,7 @@ module _ (files : Files) (r n : ℕ) where
   tells rs g at (journal.Pblk b) least most stands = tt
 
   -- the sign of a record tells whether that is the surviving part of an entry
-  tells_in : (rs : List InstanceRecord) (s : PlacedSign) (p : Placed) → IsSignOf files r s p → (1 ≤ p.generation) × (p.generation ≤ 65535) → IsSign files r n (sign_in rs n s) (part_in rs n p.generation p.what)
+  pub tells_in : (rs : List InstanceRecord) (s : PlacedSign) (p : Placed) → IsSignOf files r s p → (1 ≤ p.generation) × (p.generation ≤ 65535) → IsSign files r n (sign_in rs n s) (part_in rs n p.generation p.what)
   tells_in rs s p is (least, most) =
       let g = p.generation in
       let yes : (nat_le 1 s.generation && nat_le s.generation 65535) ≡ true = grind (arith, nat_tests, is.generation, least, most) in

@@ -2,8 +2,8 @@
 use Rattle.std.specs.Prelude.{◌≡◌, ℕ, ◌^◌, ◌||◌, not, Bool, true, false, if◌then◌else◌, Option, Some, None, IsSome}
 use Rattle.journal_defs.specs.Journal.{Part}
 use Rattle.journal_defs.specs.Sequence.{in_mask, updates_by}
-use Rattle.jnl_index.specs.declared.sign.Span.{Span}
-use Rattle.entry_index.specs.declared.sign.PartSign.{PartSign}
+use Rattle.entry_index.specs.declared.sign.Span.{Span}
+use Rattle.entry_index.specs.declared.signed_part.PartSign.{PartSign}
 use Rattle.entry_index.specs.declared.completing.Told.{Told}
 use Rattle.entry_index.specs.declared.completing.Told.TheVariants.{Complete, Broken, Unsure}
 use Rattle.entry_index.specs.declared.place.PartPlace.{PartPlace}

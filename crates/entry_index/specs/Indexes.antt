@@ -6,8 +6,8 @@ use Rattle.global_defs.specs.Entry.{Reign, Entry, Sequence}
 use Rattle.global_defs.specs.Prefix.{stamp_at}
 use Rattle.journal_defs.specs.Journal.{JournalRecord, Part}
 use Rattle.journal_defs.specs.Sequence.{Placed, entry_with}
-use Rattle.jnl_index.specs.Places.{AreSignsOf}
-use Rattle.jnl_index.specs.declared.placed.PlacedSign.{PlacedSign}
+use Rattle.entry_index.specs.Places.{AreSignsOf}
+use Rattle.entry_index.specs.declared.placed.PlacedSign.{PlacedSign}
 use Rattle.entry_index.specs.declared.place.PartPlace.{PartPlace}
 use Rattle.entry_index.specs.declared.index.EntryIndex.{EntryIndex}
 use Rattle.entry_index.specs.Parts.{NOWHERE, InFiles, IsPartAt, AreParts}

@@ -1,8 +1,17 @@
+pub mod RecordSigns
+pub mod Places
+pub mod Fields
+pub mod Telling
+pub mod Pieces
+pub mod Generations
+pub mod Order
 pub mod Errors
 pub mod Parts
 pub mod Signs
 pub mod Table
 pub mod Completing
 pub mod Indexes
+pub mod Thinned
 pub mod Found
 pub mod Among
+pub mod Cursors

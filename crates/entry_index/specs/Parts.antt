@@ -5,8 +5,8 @@ use Rattle.journal_defs.specs.Journal.{JournalRecord, Pini, Epoch, Pblk, Tcom, P
 use Rattle.journal_defs.specs.Numbers.{journal_file}
 use Rattle.gvn_model.specs.Entries.{origin_value}
 use Rattle.journal_defs.specs.Sequence.{Placed}
-use Rattle.jnl_index.specs.Order.{IsAmong}
-use Rattle.jnl_index.specs.Places.{StandsAt}
+use Rattle.entry_index.specs.Order.{IsAmong}
+use Rattle.entry_index.specs.Places.{StandsAt}
 use Rattle.entry_index.specs.declared.place.PartPlace.{PartPlace}
 use Rattle.entry_index.specs.declared.reading.ReadPart.{ReadPart}
 

@@ -6,11 +6,11 @@ use Rattle.journal_defs.specs.Instance.{InstanceRecord}
 use Rattle.journal_defs.specs.Journal.{Part}
 use Rattle.journal_defs.specs.Surviving.{survives}
 use Rattle.gvn_model.specs.Entries.{origin_value}
-use Rattle.jnl_index.specs.declared.placed.PlacedSign.{PlacedSign}
-use Rattle.jnl_index.specs.declared.sign.Sign.{Sign}
-use Rattle.jnl_index.specs.declared.sign.Sign.TheVariants.{Pini, Epoch, Pblk, Tcom}
-use Rattle.jnl_index.specs.Signs.{span_of}
-use Rattle.entry_index.specs.declared.sign.PartSign.{PartSign}
+use Rattle.entry_index.specs.declared.placed.PlacedSign.{PlacedSign}
+use Rattle.entry_index.specs.declared.sign.Sign.{Sign}
+use Rattle.entry_index.specs.declared.sign.Sign.TheVariants.{Pini, Epoch, Pblk, Tcom}
+use Rattle.entry_index.specs.RecordSigns.{span_of}
+use Rattle.entry_index.specs.declared.signed_part.PartSign.{PartSign}
 use Rattle.entry_index.specs.Parts.{InFiles, IsPartAt}
 
 -- what a sign says of a part that stands here

@@ -5,8 +5,8 @@ use Rattle.std.specs.Option.{option_and_then}
 use Rattle.disk_defs.specs.Disk.{Files}
 use Rattle.journal_defs.specs.Journal.{Part}
 use Rattle.journal_defs.specs.Instance.{InstanceRecord}
-use Rattle.jnl_index.specs.declared.placed.PlacedSign.{PlacedSign}
-use Rattle.entry_index.specs.declared.sign.PartSign.{PartSign}
+use Rattle.entry_index.specs.declared.placed.PlacedSign.{PlacedSign}
+use Rattle.entry_index.specs.declared.signed_part.PartSign.{PartSign}
 use Rattle.entry_index.specs.declared.table.SignTable.{SignTable}
 use Rattle.entry_index.specs.Signs.{part_sign_in, last_sign, IsSign}
 use Rattle.entry_index.specs.declared.place.PartPlace.{PartPlace}
@@ -26,11 +26,15 @@ pub record IsColumn (instance : List InstanceRecord) (places : ℕ) (signs : Lis
   pub many : length column ≡ places
   pub each : (i : ℕ) → i < places → sign_in_column i column ≡ last_sign instance (i + 1) signs
 
--- the signs at a place of the table are those of these parts of entry n
-abbrev pub AreSigned : Files → SignTable → ℕ → ℕ → (ℕ → Option Part) → Type 0
-AreSigned files t i n part = (r : ℕ) → IsSign files r n (sign_at t i r) (part r)
+-- what the sign of a region in a row says
+abbrev pub row_sign : List (Option PartSign) → ℕ → Option PartSign
+row_sign row r = get_or row r None
 
--- Where a row was added it has the places that the signs at a place of the table tell, one a region.
-abbrev pub AddsRow : SignTable → ℕ → (regions : ℕ) → Bool → List PartPlace → List PartPlace → Type 0
-AddsRow t i regions true old new = (row : List PartPlace) × (new ≡ old ++ row) × (length row ≡ regions) × ((r : ℕ) → r < regions → get_or row r NOWHERE ≡ place_told (sign_at t i r))
-AddsRow t i regions false old new = new ≡ old
+-- the signs of a row are those of these parts of entry n
+abbrev pub AreSigned : Files → List (Option PartSign) → ℕ → (ℕ → Option Part) → Type 0
+AreSigned files row n part = (r : ℕ) → IsSign files r n (row_sign row r) (part r)
+
+-- Where places were added they are those that the signs of a row tell, one a region.
+abbrev pub AddsRow : List (Option PartSign) → (regions : ℕ) → Bool → List PartPlace → List PartPlace → Type 0
+AddsRow row regions true old new = (places : List PartPlace) × (new ≡ old ++ places) × (length places ≡ regions) × ((r : ℕ) → r < regions → get_or places r NOWHERE ≡ place_told (row_sign row r))
+AddsRow row regions false old new = new ≡ old

@@ -1,6 +1,6 @@
 //! Indexes built from the signs of records.
 ghost use Rattle.std.specs.Prelude.{◌≡◌, ◌≤◌, ◌<◌, ◌+◌, ◌*◌, ◌^◌, ℕ, List, length, map, Option, None, is_some, IfOk, IfSome, OnOk, IsErrOf, true, if◌then◌else◌};
-ghost use Rattle.disk_defs.specs.Disk.{Reads, Rose};
+ghost use Rattle.disk_defs.specs.Disk.{Reads, MayFailUncounted};
 ghost use Rattle.global_defs.specs.Entry as defs;
 ghost use Rattle.global_defs.specs.Prefix as prefix;
 ghost use Rattle.journal_defs.specs.Journal as journal;
@@ -15,62 +15,61 @@ ghost use Rattle.entry_index.specs.Parts.{InFiles};
 use crate::completing::{is_complete, place_in};
 use crate::error::IndexError;
 use crate::index::EntryIndex;
+use crate::placed::PlacedSign;
+use crate::signed_part::PartSign;
 use crate::table::{SignTable, count_all};
 use gvn_key::NoMemory;
 use gvn_model::Reigns;
 use instance_file::InstanceRecords;
-use jnl_index::PlacedSign;
 use mupip_recover::{Cuts, starts_of};
 use repl_disk::Disk;
 use std::alloc::Global;
 
-/// Adds the places of the parts of the entry at a place, one a region.
-fn push_places(table: &SignTable, place: usize, made: &mut EntryIndex) -> Result<(), NoMemory>
-    ensures row { OnOk result (AddsRow table.now place made.old.regions true made.old.places.items made.new.places.items) }
+/// Adds the places of the parts of an entry, one a region.
+fn push_places(row: &[Option<PartSign>], made: &mut EntryIndex) -> Result<(), NoMemory>
+    ensures row { OnOk result (AddsRow row.now made.old.regions true made.old.places.items made.new.places.items) }
     ensures regions { made.new.regions ≡ made.old.regions }
 {
     for region in 0..made.regions {
-        made.places.push(place_in(table, place, region))?;
+        made.places.push(place_in(row, region))?;
     }
     Ok(())
 }
 
 /// Whether some reign has begun by the entry of a number, by the starts that [`starts_of`] gives.
-fn has_begun(starts: &[u64], number: u64) -> bool
+pub(crate) fn has_begun(starts: &[u64], number: u64) -> bool
     ensures { (rs : List defs.Reign) → AreStarts rs starts.now → result ≡ is_some (prefix.stamp_at number rs) }
 {
     !starts.is_empty() && starts[0] <= number
 }
 
-/// Adds the row of the entry at a place, where it's complete and a reign had begun by then, and answers whether it is.
-fn add_row<D: Disk>(
+/// Adds the row of the entry of a number, by its signs, where it's complete and a reign had begun by then, and answers whether it is.
+pub(crate) fn add_row<D: Disk>(
     alloc: Global,
     disk: &mut D,
-    table: &SignTable,
+    row: &[Option<PartSign>],
     starts: &[u64],
-    place: usize,
+    number: u64,
     made: &mut EntryIndex,
 ) -> Result<bool, IndexError>
-    requires place { place + 1 < 2 ^ 64 }
     requires few { made.old.regions ≤ 8 }
-    ensures added { IfOk result (λ more. IfSome (D.disk disk.old).content (λ files. (part : ℕ → Option journal.Part) → AreSigned files table.now place (place + 1) part → ((r : ℕ) → made.old.regions ≤ r → part r ≡ None)
-        → (rs : List defs.Reign) → AreStarts rs starts.now → IsNext files rs (place + 1) part more made.old.places.items made.new.places.items)) }
+    ensures added { IfOk result (λ more. IfSome (D.disk disk.old).content (λ files. (part : ℕ → Option journal.Part) → AreSigned files row.now number part → ((r : ℕ) → made.old.regions ≤ r → part r ≡ None)
+        → (rs : List defs.Reign) → AreStarts rs starts.now → IsNext files rs number part more made.old.places.items made.new.places.items)) }
     ensures many { IfOk result (λ more. length made.new.places.items ≡ (if more then length made.old.places.items + made.old.regions else length made.old.places.items)) }
-    ensures row { IfOk result (λ more. AddsRow table.now place made.old.regions more made.old.places.items made.new.places.items) }
+    ensures row { IfOk result (λ more. AddsRow row.now made.old.regions more made.old.places.items made.new.places.items) }
     ensures regions { made.new.regions ≡ made.old.regions }
-    ensures outside { (file offset : ℕ) → IsErrOf result (IndexError.NotAFile file offset) → IfSome (D.disk disk.old).content (λ files. (part : ℕ → Option journal.Part) → AreSigned files table.now place (place + 1) part → ((r : ℕ) → made.old.regions ≤ r → part r ≡ None) → ⊥) }
+    ensures outside { (file offset : ℕ) → IsErrOf result (IndexError.NotAFile file offset) → IfSome (D.disk disk.old).content (λ files. (part : ℕ → Option journal.Part) → AreSigned files row.now number part → ((r : ℕ) → made.old.regions ≤ r → part r ≡ None) → ⊥) }
     ensures reads { Reads (D.disk disk.old) (D.disk disk.new) }
-    ensures later { (D.disk disk.old).faults ≤ (D.disk disk.new).faults }
-    ensures cause { IsErrOf result IndexError.Failed → Rose (D.disk disk.old).faults (D.disk disk.new).faults }
+    ensures faults { MayFailUncounted (D.disk disk.old).faults (D.disk disk.new).faults (IsErrOf result IndexError.Failed) }
 {
-    if !has_begun(starts, place as u64 + 1) {
+    if !has_begun(starts, number) {
         return Ok(false);
     }
-    let complete = is_complete(alloc, disk, table, place, made.regions)?;
+    let complete = is_complete(alloc, disk, row, number, made.regions)?;
     if !complete {
         return Ok(false);
     }
-    push_places(table, place, made)?;
+    push_places(row, made)?;
     Ok(true)
 }
 
@@ -100,8 +99,7 @@ impl EntryIndex {
         ensures placed { IfOk result (λ made. ArePlaced instance.now (map (λ s. s.items) signs.now) made) }
         ensures outside { (file offset : ℕ) → IsErrOf result (IndexError.NotAFile file offset) → IfSome (D.disk disk.old).content (λ files. (journal : ℕ → List sequences.Placed) → AreSigns files (map (λ s. s.items) signs.now) journal → ⊥) }
         ensures reads { Reads (D.disk disk.old) (D.disk disk.new) }
-        ensures later { (D.disk disk.old).faults ≤ (D.disk disk.new).faults }
-        ensures cause { IsErrOf result IndexError.Failed → Rose (D.disk disk.old).faults (D.disk disk.new).faults }
+        ensures faults { MayFailUncounted (D.disk disk.old).faults (D.disk disk.new).faults (IsErrOf result IndexError.Failed) }
     {
         let cuts = Cuts::of(alloc, instance)?;
         let Some(places) = count_all(signs) else {
@@ -114,8 +112,10 @@ impl EntryIndex {
             regions: signs.len() as u8,
             places: Vec::new(alloc),
         };
+        let mut row = Vec::new(alloc);
         for place in 0..places {
-            let more = add_row(alloc, disk, &table, &starts, place, &mut made)?;
+            table.fill(place, &mut row)?;
+            let more = add_row(alloc, disk, &row, &starts, place as u64 + 1, &mut made)?;
             if !more {
                 return Ok(made);
             }

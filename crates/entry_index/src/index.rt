@@ -1,7 +1,7 @@
 //! Indexes of entries.
 ghost use Rattle.std.specs.Prelude.{◌≡◌, ◌⊎◌, ◌+◌, ◌-◌, ◌*◌, ◌/◌, ◌≤◌, ◌<◌, ◌++◌, ℕ, length, take, drop, slice_get, None, IfOk, IfSome, OnOk, OnErr, IsErrOf};
 ghost use Rattle.std.specs.Option.{option_map};
-ghost use Rattle.disk_defs.specs.Disk.{Reads, Rose};
+ghost use Rattle.disk_defs.specs.Disk.{Reads, MayFailUncounted};
 ghost use Rattle.global_defs.specs.Entry as defs;
 ghost use Rattle.gvn_model.specs.Entries.{entry_value};
 ghost use Rattle.mupip_recover.specs.Stamps.{AreStarts};
@@ -84,8 +84,7 @@ impl EntryIndex {
         ensures number { IfOk result (λ found. IfSome found (λ e. e.number ≡ number)) }
         ensures outside { (file offset : ℕ) → IsErrOf result (IndexError.NotAFile file offset) → IfSome (D.disk disk.old).content (λ files. (seq : defs.Sequence) → Indexes (InFiles files) history.now self.now seq → ⊥) }
         ensures reads { Reads (D.disk disk.old) (D.disk disk.new) }
-        ensures later { (D.disk disk.old).faults ≤ (D.disk disk.new).faults }
-        ensures cause { IsErrOf result IndexError.Failed → Rose (D.disk disk.old).faults (D.disk disk.new).faults }
+        ensures faults { MayFailUncounted (D.disk disk.old).faults (D.disk disk.new).faults (IsErrOf result IndexError.Failed) }
     {
         let Some(row) = self.row(number) else {
             return Ok(None);

@@ -1,7 +1,7 @@
 //! Entries read from the places of their parts.
 ghost use Rattle.std.specs.Prelude.{◌≡◌, ◌≤◌, ◌<◌, ℕ, List, [], ◌∷◌, ◌++◌, map, length, Option, get_or, None, IfOk, OnOk, IfSome, IsErrOf};
 ghost use Rattle.std.specs.Option.{option_map};
-ghost use Rattle.disk_defs.specs.Disk.{Reads, Rose};
+ghost use Rattle.disk_defs.specs.Disk.{Reads, MayFailUncounted};
 ghost use Rattle.global_defs.specs.Entry as defs;
 ghost use Rattle.journal_defs.specs.Journal as journal;
 ghost use Rattle.journal_defs.specs.Sequence.{REGIONS, entry_among};
@@ -13,11 +13,11 @@ ghost use Rattle.entry_index.specs.Parts.{InFiles, NOWHERE, IsPartAt, AreParts, 
 
 use crate::error::{IndexError, in_file};
 use crate::place::PartPlace;
-use crate::sign::LAST_GENERATION;
+use crate::placed_record::read_placed;
+use crate::signed_part::LAST_GENERATION;
 use gvn_key::NoMemory;
 use gvn_model::{Items, Origin, Transaction};
 use jnl_file::journal_file;
-use jnl_index::read_placed;
 use jnl_record::JnlRecord;
 use mupip_recover::{Part, Table, transaction_at};
 use repl_disk::Disk;
@@ -93,8 +93,7 @@ fn read_part<D: Disk>(
     ensures found { IfOk result (λ found. IfSome (D.disk disk.old).content (λ files. (x : Option journal.Part) → IsPartAt (InFiles files) region number place x → option_map read_value found ≡ x)) }
     ensures outside { (file offset : ℕ) → IsErrOf result (IndexError.NotAFile file offset) → IfSome (D.disk disk.old).content (λ files. (x : Option journal.Part) → IsPartAt (InFiles files) region number place x → ⊥) }
     ensures reads { Reads (D.disk disk.old) (D.disk disk.new) }
-    ensures later { (D.disk disk.old).faults ≤ (D.disk disk.new).faults }
-    ensures cause { IsErrOf result IndexError.Failed → Rose (D.disk disk.old).faults (D.disk disk.new).faults }
+    ensures faults { MayFailUncounted (D.disk disk.old).faults (D.disk disk.new).faults (IsErrOf result IndexError.Failed) }
 {
     let PartPlace { generation, offset } = place;
     if generation == 0 {
@@ -137,8 +136,7 @@ fn read_parts<D: Disk>(
         → (r : ℕ) → get_or (map (option_map read_value) made.items) r None ≡ part r)) }
     ensures outside { (file offset : ℕ) → IsErrOf result (IndexError.NotAFile file offset) → IfSome (D.disk disk.old).content (λ files. (part : ℕ → Option journal.Part) → AreParts (InFiles files) number row.now part → ⊥) }
     ensures reads { Reads (D.disk disk.old) (D.disk disk.new) }
-    ensures later { (D.disk disk.old).faults ≤ (D.disk disk.new).faults }
-    ensures cause { IsErrOf result IndexError.Failed → Rose (D.disk disk.old).faults (D.disk disk.new).faults }
+    ensures faults { MayFailUncounted (D.disk disk.old).faults (D.disk disk.new).faults (IsErrOf result IndexError.Failed) }
 {
     let mut made = Vec::new(alloc);
     for region in 0..row.len() {
@@ -190,8 +188,7 @@ pub fn read_transaction<D: Disk>(
         → (stamp : defs.Stamp) → entry_among part stamp REGIONS ≡ option_map (stamped stamp) found)) }
     ensures outside { (file offset : ℕ) → IsErrOf result (IndexError.NotAFile file offset) → IfSome (D.disk disk.old).content (λ files. (part : ℕ → Option journal.Part) → AreParts (InFiles files) number row.now part → ⊥) }
     ensures reads { Reads (D.disk disk.old) (D.disk disk.new) }
-    ensures later { (D.disk disk.old).faults ≤ (D.disk disk.new).faults }
-    ensures cause { IsErrOf result IndexError.Failed → Rose (D.disk disk.old).faults (D.disk disk.new).faults }
+    ensures faults { MayFailUncounted (D.disk disk.old).faults (D.disk disk.new).faults (IsErrOf result IndexError.Failed) }
 {
     let parts = read_parts(alloc, disk, row, number)?;
     let table = table_of(alloc, &parts)?;

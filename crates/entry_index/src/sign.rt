@@ -1,81 +1,56 @@
-//! What a sign says of the part of an entry.
-ghost use Rattle.std.specs.Prelude.{◌≡◌, ◌<◌};
-ghost use Rattle.journal_defs.specs.Sequence.{in_mask};
-ghost use Rattle.entry_index.specs.Signs.{part_sign_in, is_like_sign};
-
-use crate::place::PartPlace;
+//! What records say.
 use gvn_model::Origin;
-use jnl_index::{PlacedSign, Sign, Span};
 
-/// How many regions there may be.
-pub const REGIONS: u8 = 8;
-
-/// The last generation that there may be.
-pub const LAST_GENERATION: u32 = 65535;
-
-/// What a sign says of the part of an entry, and where that stands.
+/// How the positions of a record's items lie.
 #[derive(Clone, Copy, Debug)]
-pub struct PartSign {
-    /// The entry's number.
-    pub number: u64,
-    /// The regions that have a part of the entry: bit r stands for region r.
-    pub mask: u8,
-    /// The job that made the entry.
-    pub origin: Origin,
-    /// How many updates the entry has in all regions.
-    pub count: u16,
-    /// How the positions of the region's updates lie.
-    pub span: Span,
-    pub place: PartPlace,
+pub struct Span {
+    /// The position of the first item, or 0 where there is none.
+    pub first: u16,
+    /// How many items there are.
+    pub many: u16,
+    /// Whether the items have the positions from the first one on, without a gap.
+    pub in_a_row: bool,
 }
 
-/// What a sign says of a part, where it's that of one and of a generation that there may be.
-pub fn part_sign(placed: &PlacedSign) -> Option<PartSign>
-    ensures { result ≡ part_sign_in placed.now }
-{
-    let PlacedSign {
-        generation,
-        offset,
-        sign,
-    } = *placed;
-    if generation == 0 || generation > LAST_GENERATION {
-        return None;
-    }
-    match sign {
-        Sign::Tcom {
-            number,
-            mask,
-            origin,
-            count,
-            span,
-        } => Some(PartSign {
-            number,
-            mask,
-            origin,
-            count,
-            span,
-            place: PartPlace { generation, offset },
-        }),
-        _ => None,
-    }
-}
-
-impl PartSign {
-    /// Whether the entry has a part in a region.
-    pub fn is_in(&self, region: u8) -> bool
-        requires { region < 8 }
-        ensures { result ≡ in_mask self.now.mask region }
-    {
-        self.mask & (1 << region) != 0
-    }
-
-    /// Whether another part has the same mask, count and origin.
-    pub fn is_like(&self, other: &PartSign) -> bool
-        ensures { result ≡ is_like_sign self.now other.now }
-    {
-        other.mask == self.mask
-            && other.count == self.count
-            && other.origin.updater == self.origin.updater
-            && other.origin.serial == self.origin.serial
-    }
+/// What a record says, but for the values and the image in it.
+#[derive(Clone, Copy, Debug)]
+pub enum Sign {
+    /// How the journal of a generation begins.
+    Pini {
+        /// The region, below 8.
+        region: u8,
+        /// Whether blocks are kept as they were before they change.
+        before: bool,
+        /// The generation, from 1 to 65,535.
+        generation: u32,
+        /// The region's last earlier generation that began, or 0.
+        previous: u32,
+    },
+    /// All blocks stood on the database file.
+    Epoch {
+        /// Whether the region was closed with it.
+        closing: bool,
+        /// How many entries had been made, below 2^40.
+        number: u64,
+        /// How many blocks there were.
+        blocks: u32,
+    },
+    /// A block as it was before a change.
+    Pblk {
+        /// The block's number.
+        block: u32,
+    },
+    /// What an entry does in the region.
+    Tcom {
+        /// The entry's number, from 1, below 2^40.
+        number: u64,
+        /// The regions that have a part of the entry: bit r stands for region r.
+        mask: u8,
+        /// The job that made the entry.
+        origin: Origin,
+        /// How many updates the entry has in all regions, from 1 to 256.
+        count: u16,
+        /// How the positions of the region's updates lie.
+        span: Span,
+    },
 }

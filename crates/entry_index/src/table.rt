@@ -1,14 +1,14 @@
 //! Signs of parts by number and region.
-ghost use Rattle.std.specs.Prelude.{◌≡◌, ◌+◌, ◌<◌, ℕ, List, map, length, replicate, Some, None, IfOk, IfSome, count_by, sum_by};
+ghost use Rattle.std.specs.Prelude.{◌≡◌, ◌+◌, ◌<◌, ℕ, List, map, length, replicate, Some, None, IfOk, IfSome, OnOk, count_by, sum_by};
 ghost use Rattle.std.specs.Option.{option_or};
 ghost use Rattle.journal_defs.specs.Instance as instances;
 ghost use Rattle.mupip_recover.specs.Cuts.{AreCuts};
 ghost use Rattle.entry_index.specs.Signs.{is_part_sign, part_sign_in, if_numbered, sign_in, last_sign, signs_of};
-ghost use Rattle.entry_index.specs.Table.{sign_in_column, sign_at, IsColumn};
+ghost use Rattle.entry_index.specs.Table.{sign_in_column, sign_at, row_sign, IsColumn};
 
-use crate::sign::{PartSign, part_sign};
+use crate::placed::PlacedSign;
+use crate::signed_part::{PartSign, part_sign};
 use gvn_key::NoMemory;
-use jnl_index::PlacedSign;
 use mupip_recover::Cuts;
 use std::alloc::Global;
 
@@ -95,6 +95,16 @@ fn column_of<'a>(
     Ok(column)
 }
 
+/// What the sign at a place of a column says.
+fn part_in_column(column: &[Option<&PlacedSign>], place: usize) -> Option<PartSign>
+    ensures { result ≡ sign_in_column place column.now }
+{
+    match column.get(place) {
+        Some(Some(placed)) => part_sign(placed),
+        _ => None,
+    }
+}
+
 impl<'a> SignTable<'a> {
     /// The signs of the surviving parts of so many first entries.
     pub fn of(
@@ -115,14 +125,14 @@ impl<'a> SignTable<'a> {
         Ok(SignTable { columns })
     }
 
-    /// What the sign at a place in a region says.
-    pub fn part(&self, place: usize, region: u8) -> Option<PartSign>
-        ensures { result ≡ sign_at self.now place region }
+    /// Makes a row of what the signs at a place say, one a region.
+    pub fn fill(&self, place: usize, row: &mut Vec<Option<PartSign>>) -> Result<(), NoMemory>
+        ensures { OnOk result ((r : ℕ) → row_sign row.new.items r ≡ sign_at self.now place r) }
     {
-        let column = self.columns.get(usize::from(region))?;
-        match column.get(place) {
-            Some(Some(placed)) => part_sign(placed),
-            _ => None,
+        row.clear();
+        for column in &self.columns {
+            row.push(part_in_column(column, place))?;
         }
+        Ok(())
     }
 }

@@ -4,7 +4,7 @@ ghost use Rattle.journal_defs.specs.Surviving as surviving;
 
 use crate::journals::{Journal, Worked, empty};
 use crate::sites::{cut_to_one, from_the_first, from_the_second};
-use entry_index::EntryIndex;
+use entry_index::{EntryIndex, look_side_by_side};
 use gvn_key::Bytes;
 use gvn_key::terms::Update;
 use gvn_model::{Entry, Reigns};
@@ -70,11 +70,12 @@ fn drawn_journal(
     seed: &mut u64,
     region: u8,
     shapes: &[u64; 4],
+    turns: u8,
 ) -> Journal
     requires { region < 8 }
 {
     let mut journal = empty(alloc);
-    for turn in 0..6u8 {
+    for turn in 0..turns {
         let place = if draw(seed, 6) == 0 {
             draw(seed, 4) as usize
         } else {
@@ -139,20 +140,52 @@ fn told_by(
     text
 }
 
-/// Draws two journals of a site, and answers how many entries they lead to.
+/// What a drawn site led to.
+#[derive(Clone, Copy)]
+struct Led {
+    /// How many entries there are.
+    long: u64,
+    /// Whether its journals could be looked through side by side.
+    beside: bool,
+}
+
+/// Looks the two journals of a site through side by side, where that can be done, and sees that the entries are those of these lines.
+fn is_beside(
+    rt: &impl Abort,
+    alloc: Global,
+    disk: &mut MemDisk,
+    instance: &InstanceRecords,
+    history: &Reigns,
+    text: &Bytes,
+) -> bool
+    requires { history.now ≡ surviving.reigns instance.now }
+{
+    let found = look_side_by_side(alloc, disk, instance, history, 2, 3).expect(rt, "memory");
+    let Some(found) = found else {
+        return false;
+    };
+    let told = told_by(rt, alloc, disk, history, &found.entries);
+    assert_eq!(rt; told.as_slice(), text.as_slice());
+    true
+}
+
+/// Draws two journals of a site, and answers what they lead to.
 fn drawn_site(
     rt: &impl Abort,
     alloc: Global,
     seed: &mut u64,
     instance: &InstanceRecords,
     history: &Reigns,
-) -> u64
+    turns: u8,
+) -> Led
     requires { history.now ≡ surviving.reigns instance.now }
 {
     let mut disk = MemDisk::new(alloc).expect(rt, "memory");
     let shapes = [draw(seed, 4), draw(seed, 4), draw(seed, 4), draw(seed, 4)];
-    let Journal { records, signs, .. } = drawn_journal(rt, alloc, &mut disk, seed, 0, &shapes);
-    let second = drawn_journal(rt, alloc, &mut disk, seed, 1, &shapes);
+    let Journal { records, signs, .. } = drawn_journal(
+        rt, alloc, &mut disk, seed, 0, &shapes, turns,
+    );
+    let second = drawn_journal(rt, alloc, &mut disk, seed, 1, &shapes, turns);
     let records = [records, second.records];
     let signs = [signs, second.signs];
     let index = EntryIndex::build(alloc, &mut disk, instance, history, &signs).expect(
@@ -165,7 +198,10 @@ fn drawn_site(
     }
     let told = told_by(rt, alloc, &mut disk, history, &index);
     assert_eq!(rt; told.as_slice(), text.as_slice());
-    index.len()
+    Led {
+        long: index.len(),
+        beside: is_beside(rt, alloc, &mut disk, instance, history, &text),
+    }
 }
 
 /// Draws sites, and counts those that lead to so many entries, from none to four.
@@ -181,7 +217,7 @@ fn drawn_sites(
     let mut seed = 12345;
     let mut lengths = [0u32; 5];
     for _site in 0..many {
-        let long = drawn_site(rt, alloc, &mut seed, instance, history);
+        let Led { long, .. } = drawn_site(rt, alloc, &mut seed, instance, history, 6);
         let place = if long < 5 { long as usize } else { 4 };
         lengths[place] = lengths[place].wrapping_add(1);
     }
@@ -210,4 +246,24 @@ fn nothing_before_the_first_reign(rt: HostRuntime) {
     let (instance, history) = from_the_second(&rt, alloc);
     let lengths = drawn_sites(&rt, alloc, &instance, &history, 20);
     assert_eq!(rt; lengths, [20, 0, 0, 0, 0]);
+}
+
+/// Sites of so few parts that their numbers rise in most of them, with and without a cut.
+#[test]
+fn journals_side_by_side(rt: HostRuntime) {
+    let alloc = rt.alloc();
+    let (whole, reigns) = from_the_first(&rt, alloc);
+    let (cut, kept) = cut_to_one(&rt, alloc);
+    let mut seed = 54321;
+    let (mut many, mut cut_many) = (0u32, 0u32);
+    for _site in 0..100 {
+        if drawn_site(&rt, alloc, &mut seed, &whole, &reigns, 4).beside {
+            many = many.wrapping_add(1);
+        }
+        if drawn_site(&rt, alloc, &mut seed, &cut, &kept, 4).beside {
+            cut_many = cut_many.wrapping_add(1);
+        }
+    }
+    assert!(&rt; many >= 20 && many < 100, "{many}");
+    assert!(&rt; cut_many >= 20 && cut_many < 100, "{cut_many}");
 }

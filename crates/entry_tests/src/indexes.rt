@@ -1,8 +1,7 @@
 //! Indexes of few entries, written out.
 use crate::sites::from_the_first;
-use entry_index::{EntryIndex, IndexError, PartPlace};
+use entry_index::{EntryIndex, IndexError, PartPlace, PlacedSign, Sign, Span};
 use gvn_model::Origin;
-use jnl_index::{PlacedSign, Sign, Span};
 use mupip_recover::starts_of;
 use repl_disk::MemDisk;
 use std::alloc::Global;

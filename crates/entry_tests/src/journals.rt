@@ -1,9 +1,9 @@
 //! Journals of worked bytes, with their records and signs beside them.
 ghost use Rattle.std.specs.Prelude.{◌≡◌, ◌<◌, ◌≤◌, ◌+◌, length};
 
+use entry_index::{PlacedSign, read_sign};
 use gvn_key::Bytes;
 use jnl_file::journal_file;
-use jnl_index::{PlacedSign, read_sign};
 use jnl_record::{PlacedRecord, decode};
 use repl_disk::{Disk, MemDisk};
 use std::alloc::Global;
@@ -51,11 +51,25 @@ fn body_of(rt: &impl Abort, alloc: Global, part: &Worked) -> Bytes {
 
 /// Writes a file from its start.
 fn write_bytes<D: Disk>(rt: &impl Abort, disk: &mut D, file: u32, bytes: &[u8]) {
-    disk.room(file, 1, bytes.len() as u64).expect(rt, "memory");
+    disk.room(file, 2, bytes.len() as u64 + 1)
+        .expect(rt, "memory");
     disk.write_at(file, 0, bytes).expect(rt, "a write");
 }
 
-/// The records of a region in journal order, and their signs.
+/// How the journal of a generation begins, with this one before it.
+fn begun(rt: &impl Abort, alloc: Global, region: u8, generation: u32, previous: u32) -> Bytes {
+    let mut bytes = Bytes::new(alloc);
+    bytes
+        .push_all(&[1, 0, 0, 0, 12, 1, 1, region, 1])
+        .expect(rt, "memory");
+    bytes
+        .push_all(&generation.to_be_bytes())
+        .expect(rt, "memory");
+    bytes.push_all(&previous.to_be_bytes()).expect(rt, "memory");
+    bytes
+}
+
+/// The parts of a region in journal order, and their signs.
 #[derive(Drop)]
 pub struct Journal {
     pub records: Vec<PlacedRecord>,
@@ -92,21 +106,19 @@ impl Journal {
         let body = body_of(rt, alloc, part);
         let long = u32::try_from(body.len()).expect(rt, "a short body");
         if self.generation != generation {
+            self.bytes = begun(rt, alloc, region, generation, self.generation);
             self.generation = generation;
-            self.bytes = Bytes::new(alloc);
         }
         let offset = self.bytes.len() as u64;
-        self.bytes.push(b'#').expect(rt, "memory");
+        self.bytes.push(1).expect(rt, "memory");
         self.bytes
             .push_all(&long.to_be_bytes())
             .expect(rt, "memory");
         self.bytes.push_all(body.as_slice()).expect(rt, "memory");
-        write_bytes(
-            rt,
-            disk,
-            journal_file(region, generation),
-            self.bytes.as_slice(),
-        );
+        let file = journal_file(region, generation);
+        write_bytes(rt, disk, file, self.bytes.as_slice());
+        let end = self.bytes.len() as u64;
+        disk.write_at(file, end, &[0]).expect(rt, "a write");
         let what = decode(alloc, body.as_slice(), offset).expect(rt, "a record");
         let sign = read_sign(body.as_slice()).expect(rt, "a sign");
         let record = PlacedRecord { generation, what };

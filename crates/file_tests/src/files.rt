@@ -1,6 +1,6 @@
 //! A site of two regions, read from a disk in memory.
 use repl_disk::{Disk, MemDisk};
-use site_files::{FilesError, ReadSite, count_entries, read_site, remember_all};
+use site_files::{FilesError, ReadEntries, ReadSite, read_site, remember_all};
 use std::alloc::Global;
 use std::test::Fail;
 
@@ -39,7 +39,7 @@ fn write_bytes<D: Disk>(disk: &mut D, file: u32, bytes: &[u8]) -> Result<(), Fai
     Ok(())
 }
 
-/// How many records a region's journals have.
+/// How many of a region's records are kept.
 fn count(read: &ReadSite, region: usize) -> usize {
     match read.signs.get(region) {
         Some(signs) => signs.len(),
@@ -54,13 +54,13 @@ fn two_regions(rt: HostRuntime) -> Result<(), Fail> {
     let mut disk = MemDisk::new(alloc)?;
     write_bytes(&mut disk, 0, SITE)?;
     write_bytes(&mut disk, 24, FIRST)?;
-    let read = read_site(alloc, &mut disk)?;
+    let ReadEntries { read, entries } = read_site(alloc, &mut disk)?;
     assert_eq!(rt; read.directory.region_of(b"BX"), 1);
     assert_eq!(rt; read.directory.region_of(b"AB"), 0);
     assert_eq!(rt; read.last_began.as_slice(), [1, 0].as_slice());
     assert_eq!(rt; count(&read, 0), 1);
     assert_eq!(rt; count(&read, 1), 0);
-    let made = remember_all(alloc, &mut disk, &read)?;
+    let made = remember_all(alloc, &mut disk, &read, entries)?;
     assert_eq!(rt; made.entries.len(), 0);
     assert!(rt; made.broken.is_empty());
     Ok(())
@@ -74,11 +74,11 @@ fn a_part_past_the_length(rt: HostRuntime) -> Result<(), Fail> {
     write_bytes(&mut disk, 0, REIGNED)?;
     write_bytes(&mut disk, 24, WHOLE)?;
     write_bytes(&mut disk, 25, PAST)?;
-    let read = read_site(alloc, &mut disk)?;
+    let ReadEntries { read, entries } = read_site(alloc, &mut disk)?;
     assert_eq!(rt; count(&read, 0), 2);
     assert_eq!(rt; count(&read, 1), 2);
-    assert_eq!(rt; count_entries(alloc, &mut disk, &read)?, 1);
-    let made = remember_all(alloc, &mut disk, &read)?;
+    assert_eq!(rt; entries.len(), 1);
+    let made = remember_all(alloc, &mut disk, &read, entries)?;
     assert_eq!(rt; made.entries.len(), 1);
     let text = b"GTMRBRK01\\A\\2\nKILL\\3\\S\\1.1\\^B\n";
     assert_eq!(rt; made.broken.as_slice(), text.as_slice());

@@ -9,7 +9,7 @@ use Rattle.disk_defs.proofs.Moments.{read_only, nothing_new}
 use Rattle.gated_file.specs.State.{State, settled}
 use Rattle.gated_file.specs.Gated.{Holds, HasState, IsReady, IsStanding}
 use Rattle.gated_file.specs.Reading.{EndsAt}
-use Rattle.site_defs.specs.OutsideGates.{IsOutside}
+use Rattle.disk_defs.specs.OutsideGates.{IsOutside}
 use Rattle.gated_file.specs.Begin.{IsBegun, KeepsRecords}
 use Rattle.gated_file.specs.declared.gated.Gated.{Gated}
 use Rattle.gated_file.proofs.Begins.{short_records, begun_state, settled_holds, standing_ready, settle_keeps, still_durable}

@@ -8,7 +8,7 @@ use Rattle.disk_defs.specs.Gates.{Body, Shut, NoGate, gate_of, behind, bodies_fr
 use Rattle.disk_defs.proofs.Texts.{stands, within_open, length-spelled}
 use Rattle.std.specs.Option.{option_map}
 use Rattle.gated_file.specs.Reading.{HasBody, EndsAt}
-use Rattle.site_defs.specs.OutsideGates.{LeadsTo, IsOutside}
+use Rattle.disk_defs.specs.OutsideGates.{LeadsTo, IsOutside}
 use Rattle.gated_file.proofs.Pieces.{spelled_push}
 use Rattle.gated_file.proofs.Steps.{all_append, stands_none}
 use Rattle.gated_file.proofs.Gates.{at_long, records_in}

@@ -2,7 +2,7 @@
 use Rattle.std.specs.Prelude.{◌≡◌, ◌≤◌, ◌<◌, ℕ, ◌+◌, List, ◌++◌, [], ◌∷◌, length, take, drop, Option, Some, None}
 use Rattle.std.specs.Int.{to_be_bytes, w32}
 use Rattle.disk_defs.specs.Gates.{Body, Open, Shut, gate_at}
-use Rattle.site_defs.specs.OutsideGates.{LeadsTo}
+use Rattle.disk_defs.specs.OutsideGates.{LeadsTo}
 
 -- An open gate with its body, which is added to what was there, and the next gate's place; or a closed gate.
 abbrev pub Finds : List ℕ → ℕ → Option ℕ → List ℕ → List ℕ → Type 0

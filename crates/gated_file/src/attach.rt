@@ -1,11 +1,11 @@
 //! Taking up a gated file.
 ghost use Rattle.std.specs.Prelude.{◌≡◌, ◌≢◌, ◌≤◌, ◌<◌, ◌^◌, [], ℕ, List, length, slice_index_or, Some, None, IfOk, IfSome, OnOk, OnErr, IsErrOf, IsTrue, MatchBool};
-ghost use Rattle.disk_defs.specs.Disk.{Image, IsDurable, AtEachMoment, Reads, Rose};
+ghost use Rattle.disk_defs.specs.Disk.{Image, IsDurable, AtEachMoment, Reads, HasCause, MayFailUncounted};
 ghost use Rattle.disk_defs.specs.Frames.{Only, OthersStay};
 ghost use Rattle.disk_defs.specs.Gates.{Body, records};
 ghost use Rattle.gated_file.specs.Gated.{IsReady, HasState, IsStanding};
 ghost use Rattle.gated_file.specs.Reading.{EndsAt};
-ghost use Rattle.site_defs.specs.OutsideGates.{IsOutside};
+ghost use Rattle.disk_defs.specs.OutsideGates.{IsOutside};
 ghost use Rattle.gated_file.specs.Begin.{IsBegun, KeepsRecords};
 ghost use Rattle.gated_file.specs.State.{settled};
 
@@ -24,8 +24,7 @@ fn find_end<D: Disk>(disk: &mut D, file: u32, size: u64) -> Result<u64, GateErro
     ensures near { IfOk result (λ end. end < 2 ^ 64) }
     ensures outside { (offset : ℕ) → IsErrOf result (GateError.NotARecord offset) → IfSome (D.disk disk.old).content (λ files. IsOutside (files file) offset) }
     ensures reads { Reads (D.disk disk.old) (D.disk disk.new) }
-    ensures later { (D.disk disk.old).faults ≤ (D.disk disk.new).faults }
-    ensures cause { IsErrOf result GateError.Failed → Rose (D.disk disk.old).faults (D.disk disk.new).faults }
+    ensures faults { MayFailUncounted (D.disk disk.old).faults (D.disk disk.new).faults (IsErrOf result GateError.Failed) }
 {
     let mut at = 0;
     while let Some(n) = body_length(disk, file, size, at)? {
@@ -39,8 +38,7 @@ fn has_closed_gate<D: Disk>(disk: &mut D, file: u32, size: u64) -> Result<bool, 
     requires told { IfSome (D.disk disk.old).content (λ files. size ≡ length (files file)) }
     ensures value { IfOk result (λ closed. IfSome (D.disk disk.old).content (λ files. MatchBool closed (slice_index_or (files file) 0 1 ≢ 1) (slice_index_or (files file) 0 1 ≡ 1))) }
     ensures reads { Reads (D.disk disk.old) (D.disk disk.new) }
-    ensures later { (D.disk disk.old).faults ≤ (D.disk disk.new).faults }
-    ensures cause { OnErr result (Rose (D.disk disk.old).faults (D.disk disk.new).faults) }
+    ensures cause { HasCause (D.disk disk.old).faults (D.disk disk.new).faults result }
     ensures failed { OnErr result (IsErrOf result GateError.Failed) }
 {
     if size == 0 {
@@ -60,8 +58,7 @@ fn begin<D: Disk>(disk: &mut D, file: u32, size: u64) -> Result<(), GateError>
     ensures begun { OnOk result (IfSome (D.disk disk.new).content (λ files. IsBegun (D.disk disk.new) file (files file))) }
     ensures any_moment { IfSome (D.disk disk.old).content (λ _. AtEachMoment (D.disk disk.old) (D.disk disk.new) (KeepsRecords (D.disk disk.old) file)) }
     ensures frame { OthersStay (Only file) (D.disk disk.old) (D.disk disk.new) }
-    ensures later { (D.disk disk.old).faults ≤ (D.disk disk.new).faults }
-    ensures cause { OnErr result (Rose (D.disk disk.old).faults (D.disk disk.new).faults) }
+    ensures cause { HasCause (D.disk disk.old).faults (D.disk disk.new).faults result }
     ensures failed { OnErr result (IsErrOf result GateError.Failed) }
 {
     if has_closed_gate(disk, file, size)? {
@@ -80,8 +77,7 @@ pub fn sync_file<D: Disk>(disk: &mut D, file: u32) -> Result<(), GateError>
     ensures content { (D.disk disk.new).content ≡ (D.disk disk.old).content }
     ensures any_moment { AtEachMoment (D.disk disk.old) (D.disk disk.new) (Image (D.disk disk.old)) }
     ensures frame { OthersStay (Only file) (D.disk disk.old) (D.disk disk.new) }
-    ensures later { (D.disk disk.old).faults ≤ (D.disk disk.new).faults }
-    ensures cause { IsErrOf result GateError.Failed → Rose (D.disk disk.old).faults (D.disk disk.new).faults }
+    ensures faults { MayFailUncounted (D.disk disk.old).faults (D.disk disk.new).faults (IsErrOf result GateError.Failed) }
     ensures outside { (offset : ℕ) → IsErrOf result (GateError.NotARecord offset) → ⊥ }
 {
     if disk.room(file, 1, 0).is_err() {
@@ -98,8 +94,7 @@ pub fn see_gates<D: Disk>(disk: &mut D, file: u32) -> Result<(), GateError>
     ensures listed { OnOk result (IfSome (D.disk disk.old).content (λ files. (bodies : List Body) × (records (files file) ≡ Some bodies))) }
     ensures outside { (offset : ℕ) → IsErrOf result (GateError.NotARecord offset) → IfSome (D.disk disk.old).content (λ files. IsOutside (files file) offset) }
     ensures reads { Reads (D.disk disk.old) (D.disk disk.new) }
-    ensures later { (D.disk disk.old).faults ≤ (D.disk disk.new).faults }
-    ensures cause { IsErrOf result GateError.Failed → Rose (D.disk disk.old).faults (D.disk disk.new).faults }
+    ensures faults { MayFailUncounted (D.disk disk.old).faults (D.disk disk.new).faults (IsErrOf result GateError.Failed) }
 {
     let size = disk.len(file)?;
     if size < 2 {
@@ -117,8 +112,7 @@ fn settle<D: Disk>(disk: &mut D, file: u32) -> Result<u64, GateError>
     ensures room { OnOk result ((D.disk disk.new).has_room file 2 1) }
     ensures any_moment { AtEachMoment (D.disk disk.old) (D.disk disk.new) (Image (D.disk disk.old)) }
     ensures frame { OthersStay (Only file) (D.disk disk.old) (D.disk disk.new) }
-    ensures later { (D.disk disk.old).faults ≤ (D.disk disk.new).faults }
-    ensures cause { IsErrOf result GateError.Failed → Rose (D.disk disk.old).faults (D.disk disk.new).faults }
+    ensures faults { MayFailUncounted (D.disk disk.old).faults (D.disk disk.new).faults (IsErrOf result GateError.Failed) }
     ensures outside { (offset : ℕ) → IsErrOf result (GateError.NotARecord offset) → ⊥ }
 {
     sync_file(disk, file)?;
@@ -167,8 +161,7 @@ impl Gated {
         ensures state { IfOk result (λ made. IfSome (D.disk disk.old).content (λ _. HasState (D.disk disk.new) made (settled []))) }
         ensures any_moment { IfSome (D.disk disk.old).content (λ _. AtEachMoment (D.disk disk.old) (D.disk disk.new) (KeepsRecords (D.disk disk.old) file)) }
         ensures frame { OthersStay (Only file) (D.disk disk.old) (D.disk disk.new) }
-        ensures later { (D.disk disk.old).faults ≤ (D.disk disk.new).faults }
-        ensures cause { IsErrOf result GateError.Failed → Rose (D.disk disk.old).faults (D.disk disk.new).faults }
+        ensures faults { MayFailUncounted (D.disk disk.old).faults (D.disk disk.new).faults (IsErrOf result GateError.Failed) }
         ensures outside { (offset : ℕ) → IsErrOf result (GateError.NotARecord offset) → ⊥ }
     {
         let size = settle(disk, file)?;
@@ -192,8 +185,7 @@ impl Gated {
         ensures no_list { (offset : ℕ) → IsErrOf result (GateError.NotARecord offset) → IfSome (D.disk disk.old).content (λ files. records (files file) ≡ None) }
         ensures any_moment { IfSome (D.disk disk.old).content (λ _. AtEachMoment (D.disk disk.old) (D.disk disk.new) (KeepsRecords (D.disk disk.old) file)) }
         ensures frame { OthersStay (Only file) (D.disk disk.old) (D.disk disk.new) }
-        ensures later { (D.disk disk.old).faults ≤ (D.disk disk.new).faults }
-        ensures cause { IsErrOf result GateError.Failed → Rose (D.disk disk.old).faults (D.disk disk.new).faults }
+        ensures faults { MayFailUncounted (D.disk disk.old).faults (D.disk disk.new).faults (IsErrOf result GateError.Failed) }
     {
         let size = settle(disk, file)?;
         if size < 2 {

@@ -1,7 +1,7 @@
 //! Reading a gated file from gate to gate.
 ghost use Rattle.std.specs.Prelude.{◌≡◌, ◌≤◌, ◌<◌, ◌+◌, ℕ, length, take, drop, IfOk, IfSome, OnErr, IsErrOf};
 ghost use Rattle.std.specs.Int.{from_be_bytes, to_be_bytes, w32};
-ghost use Rattle.disk_defs.specs.Disk.{Reads, Rose};
+ghost use Rattle.disk_defs.specs.Disk.{Reads, MayFailUncounted};
 ghost use Rattle.disk_defs.specs.Gates.{NoGate, gate_at};
 ghost use Rattle.gated_file.specs.Reading.{BodyAt, Finds};
 
@@ -38,8 +38,7 @@ pub fn body_length<D: Disk>(
     ensures only_here { (offset : ℕ) → IsErrOf result (GateError.NotARecord offset) → offset ≡ at }
     ensures memory { IsErrOf result GateError.NoMemory → ⊥ }
     ensures reads { Reads (D.disk disk.old) (D.disk disk.new) }
-    ensures later { (D.disk disk.old).faults ≤ (D.disk disk.new).faults }
-    ensures cause { IsErrOf result GateError.Failed → Rose (D.disk disk.old).faults (D.disk disk.new).faults }
+    ensures faults { MayFailUncounted (D.disk disk.old).faults (D.disk disk.new).faults (IsErrOf result GateError.Failed) }
 {
     if at >= size {
         return Err(GateError::NotARecord { offset: at });
@@ -72,8 +71,7 @@ fn bytes_at<D: Disk>(
     requires inside { IfSome (D.disk disk.old).content (λ files. at + n ≤ length (files file)) }
     ensures bytes { IfOk result (λ bytes. IfSome (D.disk disk.old).content (λ files. bytes.items ≡ take n (drop at (files file)))) }
     ensures reads { Reads (D.disk disk.old) (D.disk disk.new) }
-    ensures later { (D.disk disk.old).faults ≤ (D.disk disk.new).faults }
-    ensures cause { IsErrOf result GateError.Failed → Rose (D.disk disk.old).faults (D.disk disk.new).faults }
+    ensures faults { MayFailUncounted (D.disk disk.old).faults (D.disk disk.new).faults (IsErrOf result GateError.Failed) }
     ensures outside { (offset : ℕ) → IsErrOf result (GateError.NotARecord offset) → ⊥ }
 {
     let mut bytes = Vec::new(alloc);
@@ -121,8 +119,7 @@ impl Gated {
         ensures out { OnErr result (out.new ≡ out.old) }
         ensures same { self.new ≡ self.old }
         ensures reads { Reads (D.disk disk.old) (D.disk disk.new) }
-        ensures later { (D.disk disk.old).faults ≤ (D.disk disk.new).faults }
-        ensures cause { IsErrOf result GateError.Failed → Rose (D.disk disk.old).faults (D.disk disk.new).faults }
+        ensures faults { MayFailUncounted (D.disk disk.old).faults (D.disk disk.new).faults (IsErrOf result GateError.Failed) }
     {
         let length = disk.len(self.file)?;
         if length < 2 {

@@ -1,3 +1,13 @@
+pub mod Numerals
+pub mod PrefixNumbers
+pub mod NameSteps
+pub mod DigitSteps
+pub mod TextSteps
+pub mod SubSteps
+pub mod Stepping
+pub mod Filling
+pub mod Fitting
+pub mod Taking
 pub mod Spelled
 pub mod PieceLaws
 pub mod Numbers
@@ -21,3 +31,11 @@ pub mod KeyTextWritten
 pub mod KeyTextFound
 pub mod ZwrFirst
 pub mod Integers
+pub mod Splits
+pub mod Lanes
+pub mod Firsts
+pub mod CodeNumbers
+pub mod CodeParts
+pub mod Texts
+pub mod CodeSubscripts
+pub mod Behind

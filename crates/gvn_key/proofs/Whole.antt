@@ -5,8 +5,8 @@ use Rattle.std.proofs.Math.Seq.{take-suc}
 use Rattle.std.proofs.lemmas.List.{take-append-drop}
 use Rattle.global_defs.proofs.ValidKeys.{valid_parts}
 use Rattle.gvn_key.specs.Decoding.{IsCode}
-use Rattle.key_prefix.specs.Codes as codes
-use Rattle.key_prefix.specs.Codes.{Begins}
+use Rattle.gvn_key.specs.Codes as codes
+use Rattle.gvn_key.specs.Codes.{Begins}
 
 -- a key's bytes are at most 255
 pub code_short : (bytes : List ℕ) → IsCode bytes → length bytes ≤ 255

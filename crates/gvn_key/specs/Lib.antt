@@ -1,3 +1,6 @@
+pub mod Codes
+pub mod Steps
+pub mod Rests
 pub mod Terms
 pub mod Faults
 pub mod Pieces
@@ -6,3 +9,6 @@ pub mod Decoding
 pub mod ZwrText
 pub mod KeyText
 pub mod Reads
+pub mod Plain
+pub mod Next
+pub mod Places

@@ -12,7 +12,7 @@ ghost use Rattle.gvn_key.specs.Faults.{child_of, front_of};
 use super::bytes::{Bytes, NoMemory};
 use super::decode::{behind, depth, first_sub, place, subs};
 use super::key::{Key, LONGEST_KEY};
-use key_prefix::KeyPrefix;
+use crate::prefix::KeyPrefix;
 use std::alloc::Global;
 
 /// Whether some key has these bytes as its encoded form. It takes no memory.

@@ -1,7 +1,5 @@
 //! Which leaves a change is about to change.
-ghost use Rattle.std.specs.Prelude.{◌≡◌, ◌≢◌, ◌≤◌, ◌<◌, [], length, IfSome};
-ghost use Rattle.std.specs.List.{AllByRecursion};
-ghost use Rattle.gvt_leaf.specs.Chained.{leaf_cells};
+ghost use Rattle.std.specs.Prelude.{◌≤◌, ◌<◌, length, IfSome};
 ghost use Rattle.gvt_leaf.specs.Order.{AreRising};
 ghost use Rattle.gvt_leaf.specs.Touched.{IsInside, StandsInside};
 

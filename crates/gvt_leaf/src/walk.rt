@@ -1,5 +1,5 @@
 //! The walk along the chain of leaves of a pool.
-ghost use Rattle.std.specs.Prelude.{◌≡◌, ◌≤◌, ◌<◌, ◌+◌, ◌^◌, ℕ, false, length, count_by, slice_index_or, IfOk, IsErrOf, MatchBool};
+ghost use Rattle.std.specs.Prelude.{◌≡◌, ◌<◌, ◌+◌, ◌^◌, ℕ, false, length, count_by, slice_index_or, IfOk, IsErrOf, MatchBool};
 ghost use Rattle.block_pool.specs.Pool.{leaf_at};
 ghost use Rattle.journal_defs.specs.Leaves.{IsLeaf};
 ghost use Rattle.gvt_leaf.specs.Links.{times, inside, one_if};

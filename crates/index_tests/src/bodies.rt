@@ -1,7 +1,7 @@
 // Worked bodies, and what they tell.
+use entry_index::{Sign, read_sign};
 use gvn_key::Bytes;
 use gvn_model::Origin;
-use jnl_index::{Sign, read_sign};
 use std::alloc::Global;
 use std::process::Abort;
 

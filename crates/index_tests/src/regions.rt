@@ -1,11 +1,11 @@
 // The journals of a region, looked through once, and their records read again.
 ghost use Rattle.std.specs.Prelude.{◌<◌};
 
+use entry_index::{RegionSigns, Sign, Span, index_generations, read_placed};
 use gvn_key::Bytes;
 use gvn_key::terms::Update;
 use gvn_model::Origin;
 use jnl_file::{GenerationsError, JournalError};
-use jnl_index::{RegionSigns, Sign, Span, index_generations, read_placed};
 use jnl_record::JnlRecord;
 use repl_disk::{Disk, MemDisk};
 use std::alloc::Global;

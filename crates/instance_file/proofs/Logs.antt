@@ -3,7 +3,7 @@ use Rattle.std.proofs.Common.{◌≡◌, inl, inr, ℕ, ◌<◌, List, length, S
 use Rattle.std.proofs.lemmas.Bool.{cases_lt}
 use Rattle.std.proofs.lemmas.Bool.Decides.{nat_tests}
 use Rattle.disk_defs.specs.Gates.{Gate, Shut, NoGate, gate_at, records}
-use Rattle.site_defs.specs.OutsideGates.{IsOutside}
+use Rattle.disk_defs.specs.OutsideGates.{IsOutside}
 use Rattle.gated_file.proofs.Walking.{outside_none}
 use Rattle.journal_defs.specs.Instance.{InstanceRecord}
 use Rattle.journal_defs.specs.Stands.{IsInstance}

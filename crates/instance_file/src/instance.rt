@@ -1,7 +1,7 @@
 //! An instance file that is open for calls.
 ghost use Rattle.std.specs.Prelude.{◌≡◌, ◌≤◌, ◌<◌, ◌+◌, ◌-◌, ◌^◌, ◌++◌, ◌∷◌, [], ℕ, List, Bool, length, map, MatchOption, Some, IfSome, IfOk, OnOk, OnErr, IsErrOf};
 ghost use Rattle.std.specs.List.{AllByRecursion};
-ghost use Rattle.disk_defs.specs.Disk.{Image, AtEachMoment, Rose};
+ghost use Rattle.disk_defs.specs.Disk.{Image, AtEachMoment, MayFailUncounted};
 ghost use Rattle.disk_defs.specs.Frames.{Only, OnlyOn, OthersStay};
 ghost use Rattle.disk_defs.specs.Gates.{records};
 ghost use Rattle.gated_file.specs.Begin.{KeepsRecords};
@@ -100,8 +100,7 @@ impl Instance {
         ensures no_memory_state { IsErrOf result InstanceError.NoMemory → (rs : List defs.InstanceRecord) → HasRecords (D.disk disk.old) self.old rs → HasRecords (D.disk disk.new) self.new rs }
         ensures no_memory_moment { IsErrOf result InstanceError.NoMemory → AtEachMoment (D.disk disk.old) (D.disk disk.new) (Image (D.disk disk.old)) }
         ensures frame { OthersStay (Only INSTANCE) (D.disk disk.old) (D.disk disk.new) }
-        ensures later { (D.disk disk.old).faults ≤ (D.disk disk.new).faults }
-        ensures cause { IsErrOf result InstanceError.Failed → Rose (D.disk disk.old).faults (D.disk disk.new).faults }
+        ensures faults { MayFailUncounted (D.disk disk.old).faults (D.disk disk.new).faults (IsErrOf result InstanceError.Failed) }
         ensures outside { (offset : ℕ) → IsErrOf result (InstanceError.NotARecord offset) → ⊥ }
     {
         let body = encode(self.gated.alloc, &added)?;
@@ -124,8 +123,7 @@ impl Instance {
         ensures state { IfOk result (λ made. IfSome (D.disk disk.old).content (λ _. HasRecords (D.disk disk.new) made [])) }
         ensures any_moment { IfSome (D.disk disk.old).content (λ _. AtEachMoment (D.disk disk.old) (D.disk disk.new) (KeepsRecords (D.disk disk.old) INSTANCE)) }
         ensures frame { OthersStay (Only INSTANCE) (D.disk disk.old) (D.disk disk.new) }
-        ensures later { (D.disk disk.old).faults ≤ (D.disk disk.new).faults }
-        ensures cause { IsErrOf result InstanceError.Failed → Rose (D.disk disk.old).faults (D.disk disk.new).faults }
+        ensures faults { MayFailUncounted (D.disk disk.old).faults (D.disk disk.new).faults (IsErrOf result InstanceError.Failed) }
         ensures outside { (offset : ℕ) → IsErrOf result (InstanceError.NotARecord offset) → ⊥ }
     {
         let gated = Gated::fresh(alloc, disk, FILE)?;
@@ -154,8 +152,7 @@ impl Instance {
         ensures state { IfOk result (λ made. IfSome (D.disk disk.old).content (λ _. HasRecords (D.disk disk.new) made (defs.Create name.now (map named_mode regions.now) ∷ []))) }
         ensures any_moment { IfSome (D.disk disk.old).content (λ _. AtEachMoment (D.disk disk.old) (D.disk disk.new) (MayCreate (D.disk disk.old) (defs.Create name.now (map named_mode regions.now)))) }
         ensures frame { OthersStay (Only INSTANCE) (D.disk disk.old) (D.disk disk.new) }
-        ensures later { (D.disk disk.old).faults ≤ (D.disk disk.new).faults }
-        ensures cause { IsErrOf result InstanceError.Failed → Rose (D.disk disk.old).faults (D.disk disk.new).faults }
+        ensures faults { MayFailUncounted (D.disk disk.old).faults (D.disk disk.new).faults (IsErrOf result InstanceError.Failed) }
         ensures outside { (offset : ℕ) → IsErrOf result (InstanceError.NotARecord offset) → ⊥ }
     {
         let mut instance = Instance::empty(alloc, disk)?;
@@ -181,8 +178,7 @@ impl Instance {
         ensures no_list { (offset : ℕ) → IsErrOf result (InstanceError.NotARecord offset) → IfSome (D.disk disk.old).content (λ files. (rs : List defs.InstanceRecord) → IsInstance (files INSTANCE) rs → ⊥) }
         ensures any_moment { IfSome (D.disk disk.old).content (λ _. AtEachMoment (D.disk disk.old) (D.disk disk.new) (KeepsRecords (D.disk disk.old) INSTANCE)) }
         ensures frame { OthersStay (Only INSTANCE) (D.disk disk.old) (D.disk disk.new) }
-        ensures later { (D.disk disk.old).faults ≤ (D.disk disk.new).faults }
-        ensures cause { IsErrOf result InstanceError.Failed → Rose (D.disk disk.old).faults (D.disk disk.new).faults }
+        ensures faults { MayFailUncounted (D.disk disk.old).faults (D.disk disk.new).faults (IsErrOf result InstanceError.Failed) }
     {
         let mut gated = Gated::attach(alloc, disk, FILE)?;
         let (records, history) = read_whole(&mut gated, disk)?;
@@ -212,8 +208,7 @@ impl Instance {
         ensures no_memory_state { IsErrOf result InstanceError.NoMemory → (rs : List defs.InstanceRecord) → HasRecords (D.disk disk.old) self.old rs → HasRecords (D.disk disk.new) self.new rs }
         ensures no_memory_moment { IsErrOf result InstanceError.NoMemory → AtEachMoment (D.disk disk.old) (D.disk disk.new) (Image (D.disk disk.old)) }
         ensures frame { OthersStay (Only INSTANCE) (D.disk disk.old) (D.disk disk.new) }
-        ensures later { (D.disk disk.old).faults ≤ (D.disk disk.new).faults }
-        ensures cause { IsErrOf result InstanceError.Failed → Rose (D.disk disk.old).faults (D.disk disk.new).faults }
+        ensures faults { MayFailUncounted (D.disk disk.old).faults (D.disk disk.new).faults (IsErrOf result InstanceError.Failed) }
         ensures outside { (offset : ℕ) → IsErrOf result (InstanceError.NotARecord offset) → ⊥ }
     {
         let reign = r.copy()?;
@@ -245,8 +240,7 @@ impl Instance {
         ensures no_memory_state { IsErrOf result InstanceError.NoMemory → (rs : List defs.InstanceRecord) → HasRecords (D.disk disk.old) self.old rs → HasRecords (D.disk disk.new) self.new rs }
         ensures no_memory_moment { IsErrOf result InstanceError.NoMemory → AtEachMoment (D.disk disk.old) (D.disk disk.new) (Image (D.disk disk.old)) }
         ensures frame { OthersStay (Only INSTANCE) (D.disk disk.old) (D.disk disk.new) }
-        ensures later { (D.disk disk.old).faults ≤ (D.disk disk.new).faults }
-        ensures cause { IsErrOf result InstanceError.Failed → Rose (D.disk disk.old).faults (D.disk disk.new).faults }
+        ensures faults { MayFailUncounted (D.disk disk.old).faults (D.disk disk.new).faults (IsErrOf result InstanceError.Failed) }
         ensures outside { (offset : ℕ) → IsErrOf result (InstanceError.NotARecord offset) → ⊥ }
     {
         let added = InstanceRecord::Cut {
@@ -279,8 +273,7 @@ impl Instance {
         ensures no_memory_state { IsErrOf result InstanceError.NoMemory → (rs : List defs.InstanceRecord) → HasRecords (D.disk disk.old) self.old rs → HasRecords (D.disk disk.new) self.new rs }
         ensures no_memory_moment { IsErrOf result InstanceError.NoMemory → AtEachMoment (D.disk disk.old) (D.disk disk.new) (Image (D.disk disk.old)) }
         ensures frame { OthersStay (Only INSTANCE) (D.disk disk.old) (D.disk disk.new) }
-        ensures later { (D.disk disk.old).faults ≤ (D.disk disk.new).faults }
-        ensures cause { IsErrOf result InstanceError.Failed → Rose (D.disk disk.old).faults (D.disk disk.new).faults }
+        ensures faults { MayFailUncounted (D.disk disk.old).faults (D.disk disk.new).faults (IsErrOf result InstanceError.Failed) }
         ensures outside { (offset : ℕ) → IsErrOf result (InstanceError.NotARecord offset) → ⊥ }
     {
         let added = map_of(self.gated.alloc, region, pattern)?;
@@ -310,8 +303,7 @@ impl Instance {
         ensures no_memory_state { IsErrOf result InstanceError.NoMemory → (rs : List defs.InstanceRecord) → HasRecords (D.disk disk.old) self.old rs → HasRecords (D.disk disk.new) self.new rs }
         ensures no_memory_moment { IsErrOf result InstanceError.NoMemory → AtEachMoment (D.disk disk.old) (D.disk disk.new) (Image (D.disk disk.old)) }
         ensures frame { OthersStay (Only INSTANCE) (D.disk disk.old) (D.disk disk.new) }
-        ensures later { (D.disk disk.old).faults ≤ (D.disk disk.new).faults }
-        ensures cause { IsErrOf result InstanceError.Failed → Rose (D.disk disk.old).faults (D.disk disk.new).faults }
+        ensures faults { MayFailUncounted (D.disk disk.old).faults (D.disk disk.new).faults (IsErrOf result InstanceError.Failed) }
         ensures outside { (offset : ℕ) → IsErrOf result (InstanceError.NotARecord offset) → ⊥ }
     {
         self.append(disk, InstanceRecord::Mode { region, before })

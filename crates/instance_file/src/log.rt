@@ -1,7 +1,7 @@
 //! Reading an instance file alone, and opening it for calls then.
-ghost use Rattle.std.specs.Prelude.{◌≡◌, ◌≤◌, ℕ, List, IfSome, IfOk, OnOk, IsErrOf};
+ghost use Rattle.std.specs.Prelude.{◌≡◌, ℕ, List, IfSome, IfOk, OnOk, IsErrOf};
 ghost use Rattle.std.specs.List.{AllByRecursion};
-ghost use Rattle.disk_defs.specs.Disk.{Image, IsDurable, AtEachMoment, Rose};
+ghost use Rattle.disk_defs.specs.Disk.{Image, IsDurable, AtEachMoment, MayFailUncounted};
 ghost use Rattle.disk_defs.specs.Frames.{Only, OthersStay};
 ghost use Rattle.gated_file.specs.Begin.{KeepsRecords};
 ghost use Rattle.journal_defs.specs.Numbers.{INSTANCE};
@@ -47,8 +47,7 @@ impl InstanceLog {
         ensures content { (D.disk disk.new).content ≡ (D.disk disk.old).content }
         ensures any_moment { AtEachMoment (D.disk disk.old) (D.disk disk.new) (Image (D.disk disk.old)) }
         ensures frame { OthersStay (Only INSTANCE) (D.disk disk.old) (D.disk disk.new) }
-        ensures later { (D.disk disk.old).faults ≤ (D.disk disk.new).faults }
-        ensures cause { IsErrOf result InstanceError.Failed → Rose (D.disk disk.old).faults (D.disk disk.new).faults }
+        ensures faults { MayFailUncounted (D.disk disk.old).faults (D.disk disk.new).faults (IsErrOf result InstanceError.Failed) }
     {
         sync_file(disk, FILE)?;
         see_gates(disk, FILE)?;
@@ -74,8 +73,7 @@ impl Instance {
         ensures state { IfOk result (λ made. IfSome (D.disk disk.old).content (λ _. HasRecords (D.disk disk.new) made log.records)) }
         ensures any_moment { IfSome (D.disk disk.old).content (λ _. AtEachMoment (D.disk disk.old) (D.disk disk.new) (KeepsRecords (D.disk disk.old) INSTANCE)) }
         ensures frame { OthersStay (Only INSTANCE) (D.disk disk.old) (D.disk disk.new) }
-        ensures later { (D.disk disk.old).faults ≤ (D.disk disk.new).faults }
-        ensures cause { IsErrOf result InstanceError.Failed → Rose (D.disk disk.old).faults (D.disk disk.new).faults }
+        ensures faults { MayFailUncounted (D.disk disk.old).faults (D.disk disk.new).faults (IsErrOf result InstanceError.Failed) }
         ensures outside { (offset : ℕ) → IsErrOf result (InstanceError.NotARecord offset) → IfSome (D.disk disk.old).content (λ _. ⊥) }
     {
         let InstanceLog { records, history } = log;

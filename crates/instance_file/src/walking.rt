@@ -1,7 +1,7 @@
 //! Reading an instance file from record to record.
-ghost use Rattle.std.specs.Prelude.{◌≡◌, ◌⊎◌, ◌≤◌, ◌<◌, ℕ, List, [], length, Some, map, IfOk, IfSome, IsErrOf};
+ghost use Rattle.std.specs.Prelude.{◌≡◌, ◌⊎◌, ◌<◌, ℕ, List, [], length, Some, map, IfOk, IfSome, IsErrOf};
 ghost use Rattle.std.specs.List.{AllByRecursion};
-ghost use Rattle.disk_defs.specs.Disk.{Reads, Rose};
+ghost use Rattle.disk_defs.specs.Disk.{Reads, MayFailUncounted};
 ghost use Rattle.disk_defs.specs.Gates.{Body, records};
 ghost use Rattle.gated_file.specs.State.{places};
 ghost use Rattle.journal_defs.specs.Instance as defs;
@@ -47,8 +47,7 @@ fn read_record<D: Disk>(
     ensures only_here { (offset : ℕ) → IsErrOf result (InstanceError.NotARecord offset) → offset ≡ at }
     ensures same { gated.new ≡ gated.old }
     ensures reads { Reads (D.disk disk.old) (D.disk disk.new) }
-    ensures later { (D.disk disk.old).faults ≤ (D.disk disk.new).faults }
-    ensures cause { IsErrOf result InstanceError.Failed → Rose (D.disk disk.old).faults (D.disk disk.new).faults }
+    ensures faults { MayFailUncounted (D.disk disk.old).faults (D.disk disk.new).faults (IsErrOf result InstanceError.Failed) }
 {
     let mut body = Bytes::new(gated.alloc);
     let Some(next) = gated.next_record(disk, at, &mut body)? else {
@@ -70,8 +69,7 @@ fn read_log<D: Disk>(gated: &mut Gated, disk: &mut D) -> Result<Log, InstanceErr
     ensures wrong { (offset : ℕ) → IsErrOf result (InstanceError.NotARecord offset) → IfSome (D.disk disk.old).content (λ files. HasWrongRecord (files gated.old.file) offset) }
     ensures same { gated.new ≡ gated.old }
     ensures reads { Reads (D.disk disk.old) (D.disk disk.new) }
-    ensures later { (D.disk disk.old).faults ≤ (D.disk disk.new).faults }
-    ensures cause { IsErrOf result InstanceError.Failed → Rose (D.disk disk.old).faults (D.disk disk.new).faults }
+    ensures faults { MayFailUncounted (D.disk disk.old).faults (D.disk disk.new).faults (IsErrOf result InstanceError.Failed) }
 {
     let mut records = InstanceRecords::new(gated.alloc);
     let mut places = Vec::new(gated.alloc);
@@ -105,8 +103,7 @@ pub fn read_whole<D: Disk>(
         → IfSome (D.disk disk.old).content (λ files. HasWrongRecord (files gated.old.file) offset ⊎ HasWrongReign (files gated.old.file) offset) }
     ensures same { gated.new ≡ gated.old }
     ensures reads { Reads (D.disk disk.old) (D.disk disk.new) }
-    ensures later { (D.disk disk.old).faults ≤ (D.disk disk.new).faults }
-    ensures cause { IsErrOf result InstanceError.Failed → Rose (D.disk disk.old).faults (D.disk disk.new).faults }
+    ensures faults { MayFailUncounted (D.disk disk.old).faults (D.disk disk.new).faults (IsErrOf result InstanceError.Failed) }
 {
     let Log { records, places } = read_log(gated, disk)?;
     let bounds = bounds_of(gated.alloc, records.as_slice())?;

@@ -8,7 +8,7 @@ use Rattle.disk_defs.specs.Disk.{Files}
 use Rattle.disk_defs.specs.Gates.{Body, Shut, Open, NoGate, gate_at, bodies_at, records, spelled}
 use Rattle.disk_defs.proofs.Told.{weaker_told, both_weak}
 use Rattle.disk_defs.proofs.Walks.{at_none, at_open}
-use Rattle.site_defs.specs.OutsideGates.{IsOutside}
+use Rattle.disk_defs.specs.OutsideGates.{IsOutside}
 use Rattle.gated_file.proofs.Walking.{outside_none}
 use Rattle.journal_defs.specs.Numbers.{journal_file}
 use Rattle.journal_defs.specs.Journal.{JournalRecord, Start, Pini, Epoch, Pblk, Tcom, IsJournalBody, BeginsWithPini}

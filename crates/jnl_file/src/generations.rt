@@ -1,7 +1,7 @@
 //! A region's journals over its generations.
 ghost use Rattle.std.specs.Prelude.{◌≡◌, ◌⊎◌, ◌≤◌, ◌<◌, ◌↔◌, [], ℕ, List, map, Some, IfOk, IfSome, OnOk, IsErrOf, IsTrue};
 ghost use Rattle.std.specs.List.{AllByRecursion};
-ghost use Rattle.disk_defs.specs.Disk.{Image, IsDurable, AtEachMoment, Reads, Rose};
+ghost use Rattle.disk_defs.specs.Disk.{Image, IsDurable, AtEachMoment, Reads, MayFailUncounted};
 ghost use Rattle.disk_defs.specs.Frames.{Only, OthersStay};
 ghost use Rattle.disk_defs.specs.Gates.{records};
 ghost use Rattle.journal_defs.specs.Numbers.{journal_file};
@@ -61,8 +61,7 @@ fn read_on<D: Disk>(
     ensures stops { (offset : ℕ) → IsErrOf result (JournalError.NotARecord offset) → IfSome (D.disk disk.old).content (λ files. StopsAt region generation previous (files gated.old.file) offset) }
     ensures same { gated.new ≡ gated.old }
     ensures reads { Reads (D.disk disk.old) (D.disk disk.new) }
-    ensures later { (D.disk disk.old).faults ≤ (D.disk disk.new).faults }
-    ensures cause { IsErrOf result JournalError.Failed → Rose (D.disk disk.old).faults (D.disk disk.new).faults }
+    ensures faults { MayFailUncounted (D.disk disk.old).faults (D.disk disk.new).faults (IsErrOf result JournalError.Failed) }
 {
     let mut began = previous;
     let mut body = Bytes::new(gated.alloc);
@@ -95,8 +94,7 @@ fn read_journal<D: Disk>(
     ensures began { IfOk result (λ began. (began ≡ previous) ⊎ (began ≡ generation)) }
     ensures outside { (offset : ℕ) → IsErrOf result (JournalError.NotARecord offset) → IfSome (D.disk disk.old).content (λ files. IsOutsideAfter region generation previous (files gated.old.file) offset) }
     ensures reads { Reads (D.disk disk.old) (D.disk disk.new) }
-    ensures later { (D.disk disk.old).faults ≤ (D.disk disk.new).faults }
-    ensures cause { IsErrOf result JournalError.Failed → Rose (D.disk disk.old).faults (D.disk disk.new).faults }
+    ensures faults { MayFailUncounted (D.disk disk.old).faults (D.disk disk.new).faults (IsErrOf result JournalError.Failed) }
 {
     match read_on(gated, disk, region, generation, previous, into) {
         Ok(began) => Ok(began),
@@ -129,8 +127,7 @@ fn read_generation<D: Disk>(
     ensures content { (D.disk disk.new).content ≡ (D.disk disk.old).content }
     ensures any_moment { AtEachMoment (D.disk disk.old) (D.disk disk.new) (Image (D.disk disk.old)) }
     ensures frame { OthersStay (Only (journal_file generation region)) (D.disk disk.old) (D.disk disk.new) }
-    ensures later { (D.disk disk.old).faults ≤ (D.disk disk.new).faults }
-    ensures cause { IsErrOf result JournalError.Failed → Rose (D.disk disk.old).faults (D.disk disk.new).faults }
+    ensures faults { MayFailUncounted (D.disk disk.old).faults (D.disk disk.new).faults (IsErrOf result JournalError.Failed) }
 {
     let file = journal_file(region, generation);
     sync_file(disk, file)?;
@@ -174,8 +171,7 @@ pub fn read_generations<D: Disk>(
     ensures any_moment { AtEachMoment (D.disk disk.old) (D.disk disk.new) (Image (D.disk disk.old)) }
     ensures frame { OthersStay (AreJournals region last) (D.disk disk.old) (D.disk disk.new) }
     ensures simulated { (D.disk disk.new).simulated ≡ (D.disk disk.old).simulated }
-    ensures later { (D.disk disk.old).faults ≤ (D.disk disk.new).faults }
-    ensures cause { IsErrOf result GenerationsError.Failed → Rose (D.disk disk.old).faults (D.disk disk.new).faults }
+    ensures faults { MayFailUncounted (D.disk disk.old).faults (D.disk disk.new).faults (IsErrOf result GenerationsError.Failed) }
 {
     let mut records = Vec::new(alloc);
     let mut last_began = 0;
@@ -212,8 +208,7 @@ pub fn is_unbegun<D: Disk>(
     ensures any_moment { AtEachMoment (D.disk disk.old) (D.disk disk.new) (Image (D.disk disk.old)) }
     ensures frame { OthersStay (Only (journal_file generation region)) (D.disk disk.old) (D.disk disk.new) }
     ensures simulated { (D.disk disk.new).simulated ≡ (D.disk disk.old).simulated }
-    ensures later { (D.disk disk.old).faults ≤ (D.disk disk.new).faults }
-    ensures cause { IsErrOf result GenerationsError.Failed → Rose (D.disk disk.old).faults (D.disk disk.new).faults }
+    ensures faults { MayFailUncounted (D.disk disk.old).faults (D.disk disk.new).faults (IsErrOf result GenerationsError.Failed) }
 {
     let file = journal_file(region, generation);
     if let Err(error) = sync_file(disk, file) {

@@ -1,6 +1,6 @@
 //! A journal that is open for calls.
 ghost use Rattle.std.specs.Prelude.{◌≡◌, ◌↔◌, ◌≤◌, ◌<◌, ◌+◌, ◌++◌, ◌∷◌, [], ℕ, List, length, Some, IfSome, IfOk, OnOk, OnErr, IsErrOf, IsTrue};
-ghost use Rattle.disk_defs.specs.Disk.{Image, AtEachMoment, Reads, Rose, HasCause};
+ghost use Rattle.disk_defs.specs.Disk.{Image, AtEachMoment, Reads, MayFailUncounted, HasCause};
 ghost use Rattle.disk_defs.specs.Frames.{Only, OnlyOn, OthersStay};
 ghost use Rattle.disk_defs.specs.Gates.{records};
 ghost use Rattle.gated_file.specs.Begin.{KeepsRecords};
@@ -66,8 +66,7 @@ impl Journal {
         ensures state { IfOk result (λ made. IfSome (D.disk disk.old).content (λ _. HasRecords (D.disk disk.new) made (settled []))) }
         ensures any_moment { IfSome (D.disk disk.old).content (λ _. AtEachMoment (D.disk disk.old) (D.disk disk.new) (KeepsRecords (D.disk disk.old) (journal_file generation region))) }
         ensures frame { OthersStay (Only (journal_file generation region)) (D.disk disk.old) (D.disk disk.new) }
-        ensures later { (D.disk disk.old).faults ≤ (D.disk disk.new).faults }
-        ensures cause { IsErrOf result JournalError.Failed → Rose (D.disk disk.old).faults (D.disk disk.new).faults }
+        ensures faults { MayFailUncounted (D.disk disk.old).faults (D.disk disk.new).faults (IsErrOf result JournalError.Failed) }
         ensures outside { (offset : ℕ) → IsErrOf result (JournalError.NotARecord offset) → ⊥ }
     {
         let gated = Gated::fresh(alloc, disk, journal_file(region, generation))?;
@@ -131,8 +130,7 @@ impl Journal {
         ensures state { IfOk result (λ made. IfSome (D.disk disk.old).content (λ _. HasRecords (D.disk disk.new) made (settled (pini region before generation previous ∷ [])))) }
         ensures any_moment { IfSome (D.disk disk.old).content (λ _. AtEachMoment (D.disk disk.old) (D.disk disk.new) (MayBegin (D.disk disk.old) (journal_file generation region) (pini region before generation previous))) }
         ensures frame { OthersStay (Only (journal_file generation region)) (D.disk disk.old) (D.disk disk.new) }
-        ensures later { (D.disk disk.old).faults ≤ (D.disk disk.new).faults }
-        ensures cause { IsErrOf result JournalError.Failed → Rose (D.disk disk.old).faults (D.disk disk.new).faults }
+        ensures faults { MayFailUncounted (D.disk disk.old).faults (D.disk disk.new).faults (IsErrOf result JournalError.Failed) }
         ensures outside { (offset : ℕ) → IsErrOf result (JournalError.NotARecord offset) → ⊥ }
     {
         let mut journal = Journal::empty(alloc, disk, region, generation)?;
@@ -164,8 +162,7 @@ impl Journal {
         ensures no_list { (offset : ℕ) → IsErrOf result (JournalError.NotARecord offset) → IfSome (D.disk disk.old).content (λ files. (rs : List JournalRecord) → IsJournalFile region generation (files (journal_file generation region)) rs → ⊥) }
         ensures any_moment { IfSome (D.disk disk.old).content (λ _. AtEachMoment (D.disk disk.old) (D.disk disk.new) (KeepsRecords (D.disk disk.old) (journal_file generation region))) }
         ensures frame { OthersStay (Only (journal_file generation region)) (D.disk disk.old) (D.disk disk.new) }
-        ensures later { (D.disk disk.old).faults ≤ (D.disk disk.new).faults }
-        ensures cause { IsErrOf result JournalError.Failed → Rose (D.disk disk.old).faults (D.disk disk.new).faults }
+        ensures faults { MayFailUncounted (D.disk disk.old).faults (D.disk disk.new).faults (IsErrOf result JournalError.Failed) }
     {
         let mut gated = Gated::attach(alloc, disk, journal_file(region, generation))?;
         read_whole(&mut gated, disk, region, generation)?;
@@ -314,8 +311,7 @@ impl Journal {
         ensures only_here { (offset : ℕ) → IsErrOf result (JournalError.NotARecord offset) → offset ≡ at }
         ensures same { self.new ≡ self.old }
         ensures reads { Reads (D.disk disk.old) (D.disk disk.new) }
-        ensures later { (D.disk disk.old).faults ≤ (D.disk disk.new).faults }
-        ensures cause { IsErrOf result JournalError.Failed → Rose (D.disk disk.old).faults (D.disk disk.new).faults }
+        ensures faults { MayFailUncounted (D.disk disk.old).faults (D.disk disk.new).faults (IsErrOf result JournalError.Failed) }
     {
         let mut body = Bytes::new(self.gated.alloc);
         read_record(&mut self.gated, disk, at, &mut body)

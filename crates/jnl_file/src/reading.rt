@@ -1,6 +1,6 @@
 //! Reading a journal from record to record.
-ghost use Rattle.std.specs.Prelude.{◌≡◌, ◌≤◌, ◌<◌, ◌↔◌, ℕ, List, Some, IfOk, IfSome, OnOk, IsErrOf, IsTrue};
-ghost use Rattle.disk_defs.specs.Disk.{Reads, Rose};
+ghost use Rattle.std.specs.Prelude.{◌≡◌, ◌<◌, ◌↔◌, ℕ, List, Some, IfOk, IfSome, OnOk, IsErrOf, IsTrue};
+ghost use Rattle.disk_defs.specs.Disk.{Reads, MayFailUncounted};
 ghost use Rattle.disk_defs.specs.Gates.{Body, records};
 ghost use Rattle.journal_defs.specs.Journal.{JournalRecord};
 ghost use Rattle.jnl_record.specs.Values.{record_value};
@@ -28,8 +28,7 @@ pub fn read_record<D: Disk>(
     ensures only_here { (offset : ℕ) → IsErrOf result (JournalError.NotARecord offset) → offset ≡ at }
     ensures same { gated.new ≡ gated.old }
     ensures reads { Reads (D.disk disk.old) (D.disk disk.new) }
-    ensures later { (D.disk disk.old).faults ≤ (D.disk disk.new).faults }
-    ensures cause { IsErrOf result JournalError.Failed → Rose (D.disk disk.old).faults (D.disk disk.new).faults }
+    ensures faults { MayFailUncounted (D.disk disk.old).faults (D.disk disk.new).faults (IsErrOf result JournalError.Failed) }
 {
     body.clear();
     let Some(next) = gated.next_record(disk, at, body)? else {
@@ -65,8 +64,7 @@ pub fn read_whole<D: Disk>(
     ensures wrong { (offset : ℕ) → IsErrOf result (JournalError.NotARecord offset) → IfSome (D.disk disk.old).content (λ files. HasWrongRecord region generation (files gated.old.file) offset) }
     ensures same { gated.new ≡ gated.old }
     ensures reads { Reads (D.disk disk.old) (D.disk disk.new) }
-    ensures later { (D.disk disk.old).faults ≤ (D.disk disk.new).faults }
-    ensures cause { IsErrOf result JournalError.Failed → Rose (D.disk disk.old).faults (D.disk disk.new).faults }
+    ensures faults { MayFailUncounted (D.disk disk.old).faults (D.disk disk.new).faults (IsErrOf result JournalError.Failed) }
 {
     let mut body = Bytes::new(gated.alloc);
     let mut at = 0;

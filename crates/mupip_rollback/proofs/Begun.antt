@@ -17,7 +17,7 @@ use Rattle.site_defs.specs.Contents.{Contents}
 use Rattle.site_defs.specs.Opening.{with_starts}
 use Rattle.site_defs.specs.Rolling.{cut_to}
 use Rattle.site_files.specs.Loading.{MayBeOpened, HasDrawn, last_of, next_cut, next_pini}
-use Rattle.site_regions.specs.Joined.{Joined, joined}
+use Rattle.region_store.specs.Joined.{Joined, joined}
 use Rattle.site_store.specs.declared.site.OpenSite.{OpenSite}
 use Rattle.site_store.specs.Site.{IsOpen, AreOnBlocks}
 use Rattle.site_store.proofs.OpenedTo.{newly}

@@ -7,7 +7,7 @@ use Rattle.entry_index.specs.Found.{IsWhole, entry_count}
 use Rattle.entry_index.specs.Parts.{InJournals}
 use Rattle.entry_index.specs.declared.index.EntryIndex.{EntryIndex}
 use Rattle.entry_index.proofs.AmongLaws.{counted, whole_rows}
-use Rattle.entry_index.proofs.Laws.{first_rows}
+use Rattle.entry_index.proofs.IndexLaws.{first_rows}
 use Rattle.global_defs.specs.Entry.{Reign, Sequence}
 use Rattle.journal_defs.specs.Sequence.{Placed}
 use Rattle.mupip_rollback.specs.Preparing.{AreFirst}

@@ -18,7 +18,7 @@ use Rattle.site_defs.specs.Contents.{Contents, Leftover}
 use Rattle.site_defs.specs.OutsideBlocks.{IsOutsideRollback}
 use Rattle.site_defs.specs.Stands.{IsSite, HasLeft}
 use Rattle.site_files.specs.Loading.{AreUnbegun, next_cut}
-use Rattle.site_regions.specs.Joined.{Joined}
+use Rattle.region_store.specs.Joined.{Joined}
 use Rattle.site_store.specs.declared.layout.Layout.{Layout}
 use Rattle.site_store.specs.declared.preparing.FoundFiles.{FoundFiles}
 use Rattle.site_store.specs.declared.preparing.StandingSite.{StandingSite}
@@ -116,7 +116,7 @@ module _ (u v : View) (f : FoundFiles) (has : HasFound f) (was : WasFound u v f)
   -- what is so of all records of which the signs say so
   so_of : (P : Records → ℕ → Type 0) → ((journal : ℕ → List Placed) → AllSay (found_signs f) journal → P (found_records f journal) t)
       → (files : Files) (journal : ℕ → List Placed) (seq : Sequence) → IsFoundIn v f journal seq files → P (found_records f journal) (min to (length seq))
-  so_of P all files journal seq is = subst (P (found_records f journal)) (t_so files journal seq is) (all journal (signs_say files (found_signs f) journal is.found.are_signs))
+  so_of P all files journal seq is = subst (P (found_records f journal)) (t_so files journal seq is) (all journal (signs_say files (length seq) (found_signs f) journal is.found.are_kept))
 
   pub told_without : (P : Records → ℕ → Type 0) → ((journal : ℕ → List Placed) → AllSay (found_signs f) journal → P (found_records f journal) t)
       → IfSome u.content (λ files. (x : Records) × (es : Sequence) × AreRecords files x × IsSequence x es × P x (min to (length es)))

@@ -9,7 +9,7 @@ use Rattle.disk_defs.proofs.Moments.{weaker, then_more}
 use Rattle.entry_index.specs.Found.{IsWhole, entry_count}
 use Rattle.global_defs.specs.Entry.{Sequence, state}
 use Rattle.global_defs.specs.Extract.{extract}
-use Rattle.jnl_index.specs.Order.{StandUpTo}
+use Rattle.entry_index.specs.Order.{StandUpTo}
 use Rattle.journal_defs.specs.Fit.{IsSoundImage}
 use Rattle.journal_defs.specs.Growth.{with_record}
 use Rattle.journal_defs.specs.Instance.{InstanceRecord, NamedMode, generation, regions, site_name}
@@ -27,7 +27,7 @@ use Rattle.site_defs.specs.Stands.{IsSite}
 use Rattle.site_files.specs.Loading.{MayBeOpened, AreRead, WasRead, MayDraw, AreUnbegun, last_of, next_cut}
 use Rattle.site_files.proofs.Ahead as ahead
 use Rattle.site_files.proofs.Kept.{image_read}
-use Rattle.site_regions.specs.Joined.{joined}
+use Rattle.region_store.specs.Joined.{joined}
 use Rattle.site_store.specs.Needing.{NoneNeeds}
 use Rattle.site_store.specs.declared.preparing.FoundFiles.{FoundFiles}
 use Rattle.site_store.specs.declared.site.OpenSite.{OpenSite}

@@ -4,7 +4,7 @@ use Rattle.disk_defs.specs.Disk.{Files, View, Image, OnFile}
 use Rattle.entry_index.specs.Among.{IsIndexOf}
 use Rattle.entry_index.specs.Found.{entry_count}
 use Rattle.global_defs.specs.Entry.{Sequence, state}
-use Rattle.jnl_index.specs.Order.{StandUpTo}
+use Rattle.entry_index.specs.Order.{StandUpTo}
 use Rattle.journal_defs.specs.Broken.{broken}
 use Rattle.journal_defs.specs.Instance.{InstanceRecord, generation, regions}
 use Rattle.journal_defs.specs.Numbers.{INSTANCE, lost_file}
@@ -13,7 +13,7 @@ use Rattle.journal_defs.specs.Surviving.{reigns}
 use Rattle.site_defs.specs.Contents.{Contents}
 use Rattle.site_defs.specs.Stands.{IsSite}
 use Rattle.site_files.specs.Loading.{AreRead, HasCut, MayCutOff, IsNoLonger, last_of, next_broken}
-use Rattle.site_regions.specs.Joined.{joined}
+use Rattle.region_store.specs.Joined.{joined}
 use Rattle.site_store.specs.Site.{AreOnBlocks, AreSynced}
 use Rattle.mupip_rollback.specs.declared.preparing.Kept.{Kept}
 

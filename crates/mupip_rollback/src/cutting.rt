@@ -1,6 +1,6 @@
 //! Both CUTs of a rollback: of all entries, and of those that stay.
-ghost use Rattle.std.specs.Prelude.{◌≡◌, ◌≤◌, ◌<◌, ◌^◌, [], ℕ, suc, true, List, length, IfSome, IfOk, OnOk, IsErrOf, IsSome, map, false};
-ghost use Rattle.disk_defs.specs.Disk.{Files, Image, From, AtEachMoment, Rose};
+ghost use Rattle.std.specs.Prelude.{◌≡◌, ◌<◌, ◌^◌, [], ℕ, suc, true, List, length, IfSome, IfOk, OnOk, IsErrOf, IsSome, map, false};
+ghost use Rattle.disk_defs.specs.Disk.{Files, Image, From, AtEachMoment, MayFail};
 ghost use Rattle.disk_defs.specs.Frames.{OthersStay};
 ghost use Rattle.entry_index.specs.Found.{IsWhole, entry_count};
 ghost use Rattle.instance_file.specs.Instance as instances;
@@ -49,9 +49,7 @@ pub(crate) fn set_aside<D: Disk>(
     ensures without { (region generation : ℕ) → IsErrOf result (RollError.NoBeforeImage region generation) → ⊥ }
     ensures no_forward { (region : ℕ) → IsErrOf result (RollError.NeedForward region) → ⊥ }
     ensures outside { (file offset : ℕ) → IsErrOf result (RollError.NotAFile file offset) → IfSome (D.disk disk.old).content (λ _. ⊥) }
-    ensures later { (D.disk disk.old).faults ≤ (D.disk disk.new).faults }
-    ensures count { (fault : ℕ) → IsErrOf result (RollError.Failed fault) → fault ≡ (D.disk disk.new).faults }
-    ensures cause { (fault : ℕ) → IsErrOf result (RollError.Failed fault) → Rose (D.disk disk.old).faults (D.disk disk.new).faults }
+    ensures faults { MayFail (D.disk disk.old).faults (D.disk disk.new).faults (λ fault. IsErrOf result (RollError.Failed fault)) }
 {
     let next = generation_in(log.records.as_slice()) + 1;
     let instance = match cut_off(alloc, disk, log, count, broken) {
@@ -103,9 +101,7 @@ pub(crate) fn begin_kept<D: Disk>(
     ensures outside { (file offset : ℕ) → IsErrOf result (RollError.NotAFile file offset) → ⊥ }
     ensures still_told { IsSome (D.disk disk.old).content → IsSome (D.disk disk.new).content }
     ensures simulated { (D.disk disk.new).simulated ≡ (D.disk disk.old).simulated }
-    ensures later { (D.disk disk.old).faults ≤ (D.disk disk.new).faults }
-    ensures count { (fault : ℕ) → IsErrOf result (RollError.Failed fault) → fault ≡ (D.disk disk.new).faults }
-    ensures cause { (fault : ℕ) → IsErrOf result (RollError.Failed fault) → Rose (D.disk disk.old).faults (D.disk disk.new).faults }
+    ensures faults { MayFail (D.disk disk.old).faults (D.disk disk.new).faults (λ fault. IsErrOf result (RollError.Failed fault)) }
 {
     let Kept {
         layout,

@@ -1,6 +1,6 @@
 //! What a rollback leaves, found and read before anything is written.
 ghost use Rattle.std.specs.Prelude.{◌≡◌, ◌⊎◌, ◌≤◌, ◌<◌, ◌+◌, ◌++◌, ℕ, suc, List, length, drop, min, IfOk, IfSome, OnOk, OnErr, IsErrOf};
-ghost use Rattle.disk_defs.specs.Disk.{Files, Image, Reads, AtEachMoment, Rose};
+ghost use Rattle.disk_defs.specs.Disk.{Files, Image, Reads, AtEachMoment, MayFail};
 ghost use Rattle.entry_index.specs.Found.{entry_count};
 ghost use Rattle.global_defs.specs.Entry.{Sequence};
 ghost use Rattle.global_defs.specs.Extract.{entries_text, extract};
@@ -27,9 +27,9 @@ use gvn_key::Bytes;
 use instance_file::InstanceLog;
 use jnl_extract::write_header;
 use mupip_recover::starts_of;
+use region_store::Regions;
 use repl_disk::Disk;
 use site_files::{created_name, see_ahead};
-use site_regions::Regions;
 use site_store::{
     FoundFiles, Layout, SiteError, StandingSite, find_files, first_needing, stand, write_entry,
 };
@@ -77,9 +77,7 @@ fn find<D: Disk>(alloc: Global, disk: &mut D) -> Result<FoundFiles, RollError>
     ensures content { (D.disk disk.new).content ≡ (D.disk disk.old).content }
     ensures any_moment { AtEachMoment (D.disk disk.old) (D.disk disk.new) (Image (D.disk disk.old)) }
     ensures simulated { (D.disk disk.new).simulated ≡ (D.disk disk.old).simulated }
-    ensures later { (D.disk disk.old).faults ≤ (D.disk disk.new).faults }
-    ensures count { (fault : ℕ) → IsErrOf result (RollError.Failed fault) → fault ≡ (D.disk disk.new).faults }
-    ensures cause { (fault : ℕ) → IsErrOf result (RollError.Failed fault) → Rose (D.disk disk.old).faults (D.disk disk.new).faults }
+    ensures faults { MayFail (D.disk disk.old).faults (D.disk disk.new).faults (λ fault. IsErrOf result (RollError.Failed fault)) }
 {
     let found = match find_files(alloc, disk) {
         Ok(found) => found,
@@ -122,9 +120,7 @@ fn write_behind<D: Disk>(
     ensures text { OnOk result (IfSome (D.disk disk.old).content (IfFound found.now (λ u seq files. out.new ≡ out.old ++ entries_text (target + 1) (drop target seq)))) }
     ensures outside { (file offset : ℕ) → IsErrOf result (SiteError.NotAFile file offset) → IfSome (D.disk disk.old).content (IfFound found.now (λ u seq files. ⊥)) }
     ensures reads { Reads (D.disk disk.old) (D.disk disk.new) }
-    ensures later { (D.disk disk.old).faults ≤ (D.disk disk.new).faults }
-    ensures count { (fault : ℕ) → IsErrOf result (SiteError.Failed fault) → fault ≡ (D.disk disk.new).faults }
-    ensures cause { (fault : ℕ) → IsErrOf result (SiteError.Failed fault) → Rose (D.disk disk.old).faults (D.disk disk.new).faults }
+    ensures faults { MayFail (D.disk disk.old).faults (D.disk disk.new).faults (λ fault. IsErrOf result (SiteError.Failed fault)) }
     ensures causes { OnErr result (((fault : ℕ) × IsErrOf result (SiteError.Failed fault)) ⊎ ((file : ℕ) × (offset : ℕ) × IsErrOf result (SiteError.NotAFile file offset)) ⊎ IsErrOf result SiteError.NoMemory) }
 {
     for done in target..found.entries.len() {
@@ -155,9 +151,7 @@ fn extract_lost<D: Disk>(
     ensures without { (region generation : ℕ) → IsErrOf result (RollError.NoBeforeImage region generation) → ⊥ }
     ensures no_forward { (region : ℕ) → IsErrOf result (RollError.NeedForward region) → ⊥ }
     ensures reads { Reads (D.disk disk.old) (D.disk disk.new) }
-    ensures later { (D.disk disk.old).faults ≤ (D.disk disk.new).faults }
-    ensures count { (fault : ℕ) → IsErrOf result (RollError.Failed fault) → fault ≡ (D.disk disk.new).faults }
-    ensures cause { (fault : ℕ) → IsErrOf result (RollError.Failed fault) → Rose (D.disk disk.old).faults (D.disk disk.new).faults }
+    ensures faults { MayFail (D.disk disk.old).faults (D.disk disk.new).faults (λ fault. IsErrOf result (RollError.Failed fault)) }
 {
     let mut text = Bytes::new(alloc);
     let name = created_name(found.read.log.records.as_slice());
@@ -225,9 +219,7 @@ fn open_first<D: Disk>(
     ensures none { OnOk result ((journal : ℕ → List Placed) → AllSay (found_signs found) journal → NoneIsWithout (found_records found journal) target) }
     ensures no_forward { (region : ℕ) → IsErrOf result (RollError.NeedForward region) → ⊥ }
     ensures reads { Reads (D.disk disk.old) (D.disk disk.new) }
-    ensures later { (D.disk disk.old).faults ≤ (D.disk disk.new).faults }
-    ensures count { (fault : ℕ) → IsErrOf result (RollError.Failed fault) → fault ≡ (D.disk disk.new).faults }
-    ensures cause { (fault : ℕ) → IsErrOf result (RollError.Failed fault) → Rose (D.disk disk.old).faults (D.disk disk.new).faults }
+    ensures faults { MayFail (D.disk disk.old).faults (D.disk disk.new).faults (λ fault. IsErrOf result (RollError.Failed fault)) }
 {
     check_images(alloc, &found, target)?;
     let lost = extract_lost(alloc, disk, &found, target)?;
@@ -256,9 +248,7 @@ pub(crate) fn prepare<D: Disk>(alloc: Global, disk: &mut D, to: u64) -> Result<P
     ensures content { (D.disk disk.new).content ≡ (D.disk disk.old).content }
     ensures any_moment { AtEachMoment (D.disk disk.old) (D.disk disk.new) (Image (D.disk disk.old)) }
     ensures simulated { (D.disk disk.new).simulated ≡ (D.disk disk.old).simulated }
-    ensures later { (D.disk disk.old).faults ≤ (D.disk disk.new).faults }
-    ensures count { (fault : ℕ) → IsErrOf result (RollError.Failed fault) → fault ≡ (D.disk disk.new).faults }
-    ensures cause { (fault : ℕ) → IsErrOf result (RollError.Failed fault) → Rose (D.disk disk.old).faults (D.disk disk.new).faults }
+    ensures faults { MayFail (D.disk disk.old).faults (D.disk disk.new).faults (λ fault. IsErrOf result (RollError.Failed fault)) }
 {
     let found = find(alloc, disk)?;
     let target = to.min(found.entries.len());

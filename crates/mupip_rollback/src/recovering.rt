@@ -1,6 +1,6 @@
 //! Recovering a site backward, and forward.
 ghost use Rattle.std.specs.Prelude.{◌≡◌, ◌⊎◌, ◌≤◌, ◌<◌, ℕ, true, List, length, IfOk, IfSome, OnErr, IsErrOf, IsSome};
-ghost use Rattle.disk_defs.specs.Disk.{AtEachMoment, Rose};
+ghost use Rattle.disk_defs.specs.Disk.{AtEachMoment, MayFail};
 ghost use Rattle.global_defs.specs.Entry.{Sequence};
 ghost use Rattle.journal_defs.specs.Instance as defs;
 ghost use Rattle.journal_defs.specs.Instance.{generation};
@@ -36,9 +36,7 @@ fn close<D: Disk>(alloc: Global, disk: &mut D, mut site: OpenSite) -> Result<u64
     ensures stands { (c : Contents) → IsOpen (D.disk disk.old) true c (length c.sequence) site → IfSome (D.disk disk.new).content (λ f. (o : Contents) × MayMark c o × IsSite f o) }
     ensures still_told { IsSome (D.disk disk.old).content → IsSome (D.disk disk.new).content }
     ensures simulated { (D.disk disk.new).simulated ≡ (D.disk disk.old).simulated }
-    ensures later { (D.disk disk.old).faults ≤ (D.disk disk.new).faults }
-    ensures count { (fault : ℕ) → IsErrOf result (RollError.Failed fault) → fault ≡ (D.disk disk.new).faults }
-    ensures cause { (fault : ℕ) → IsErrOf result (RollError.Failed fault) → Rose (D.disk disk.old).faults (D.disk disk.new).faults }
+    ensures faults { MayFail (D.disk disk.old).faults (D.disk disk.new).faults (λ fault. IsErrOf result (RollError.Failed fault)) }
     ensures causes { OnErr result (((fault : ℕ) × IsErrOf result (RollError.Failed fault)) ⊎ IsErrOf result RollError.NoMemory) }
 {
     match site.epoch(alloc, disk, true) {
@@ -75,9 +73,7 @@ pub fn recover_backward<D: Disk>(alloc: Global, disk: &mut D) -> Result<u64, Rol
     ensures still_told { IsSome (D.disk disk.old).content → IsSome (D.disk disk.new).content }
     ensures stands { IfSome (D.disk disk.old).content (λ files. (c : Contents) (left : Leftover) → IsSite files c → HasLeft files c left → EachStands (D.disk disk.old) → IfSome (D.disk disk.new).content (λ now. (o : Contents) × (MayOpen left.broken c o ⊎ MayMark (opened left.broken c) o) × IsSite now o)) }
     ensures simulated { (D.disk disk.new).simulated ≡ (D.disk disk.old).simulated }
-    ensures later { (D.disk disk.old).faults ≤ (D.disk disk.new).faults }
-    ensures count { (fault : ℕ) → IsErrOf result (RollError.Failed fault) → fault ≡ (D.disk disk.new).faults }
-    ensures cause { (fault : ℕ) → IsErrOf result (RollError.Failed fault) → Rose (D.disk disk.old).faults (D.disk disk.new).faults }
+    ensures faults { MayFail (D.disk disk.old).faults (D.disk disk.new).faults (λ fault. IsErrOf result (RollError.Failed fault)) }
 {
     match load(alloc, disk) {
         Ok(site) => close(alloc, disk, site),
@@ -113,9 +109,7 @@ pub fn recover_forward<D: Disk>(alloc: Global, disk: &mut D) -> Result<u64, Roll
     ensures still_told { IsSome (D.disk disk.old).content → IsSome (D.disk disk.new).content }
     ensures stands { IfSome (D.disk disk.old).content (λ files. (c : Contents) (left : Leftover) → IsSite files c → HasLeft files c left → EachStands (D.disk disk.old) → IfSome (D.disk disk.new).content (λ now. (o : Contents) × MayRecoverAs true left.broken c o × IsSite now o)) }
     ensures simulated { (D.disk disk.new).simulated ≡ (D.disk disk.old).simulated }
-    ensures later { (D.disk disk.old).faults ≤ (D.disk disk.new).faults }
-    ensures count { (fault : ℕ) → IsErrOf result (RollError.Failed fault) → fault ≡ (D.disk disk.new).faults }
-    ensures cause { (fault : ℕ) → IsErrOf result (RollError.Failed fault) → Rose (D.disk disk.old).faults (D.disk disk.new).faults }
+    ensures faults { MayFail (D.disk disk.old).faults (D.disk disk.new).faults (λ fault. IsErrOf result (RollError.Failed fault)) }
 {
     match load_anew(alloc, disk) {
         Ok(site) => close(alloc, disk, site),

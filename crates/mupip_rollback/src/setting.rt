@@ -1,6 +1,6 @@
 //! Setting the mode of a region.
 ghost use Rattle.std.specs.Prelude.{◌≡◌, ◌⊎◌, ◌↔◌, ◌≤◌, ◌<◌, ◌++◌, ◌∷◌, [], ℕ, length, map, IfSome, OnOk, OnErr, IsErrOf, IsSome, IsTrue};
-ghost use Rattle.disk_defs.specs.Disk.{Files, Image, IsDurable, AtEachMoment, Rose};
+ghost use Rattle.disk_defs.specs.Disk.{Files, Image, IsDurable, AtEachMoment, MayFail};
 ghost use Rattle.disk_defs.specs.Frames.{Only, OnlyOn, OthersStay};
 ghost use Rattle.instance_file.specs.Instance.{StandsWith};
 ghost use Rattle.instance_file.specs.Values.{record_value};
@@ -46,9 +46,7 @@ fn append_mode<D: Disk>(
     ensures images { OnOk result (IfSome (D.disk disk.old).content (λ _. (f : Files) → Image (D.disk disk.new) f → IsInstance (f INSTANCE) (log.records ++ defs.Mode region before ∷ []))) }
     ensures any_moment { IfSome (D.disk disk.old).content (λ _. AtEachMoment (D.disk disk.old) (D.disk disk.new) (OnlyOn (D.disk disk.old) INSTANCE (StandsWith log.records (defs.Mode region before)))) }
     ensures frame { OthersStay (Only INSTANCE) (D.disk disk.old) (D.disk disk.new) }
-    ensures later { (D.disk disk.old).faults ≤ (D.disk disk.new).faults }
-    ensures count { (fault : ℕ) → IsErrOf result (RollError.Failed fault) → fault ≡ (D.disk disk.new).faults }
-    ensures cause { (fault : ℕ) → IsErrOf result (RollError.Failed fault) → Rose (D.disk disk.old).faults (D.disk disk.new).faults }
+    ensures faults { MayFail (D.disk disk.old).faults (D.disk disk.new).faults (λ fault. IsErrOf result (RollError.Failed fault)) }
     ensures outside { (file offset : ℕ) → IsErrOf result (RollError.NotAFile file offset) → IfSome (D.disk disk.old).content (λ _. ⊥) }
     ensures causes { OnErr result (((fault : ℕ) × IsErrOf result (RollError.Failed fault)) ⊎ ((file : ℕ) × (offset : ℕ) × IsErrOf result (RollError.NotAFile file offset)) ⊎ IsErrOf result RollError.NoMemory) }
 {
@@ -87,9 +85,7 @@ pub fn set_mode<D: Disk>(
     ensures stands { IfSome (D.disk disk.old).content (λ files. (c : Contents) (left : Leftover) → IsSite files c → HasLeft files c left → IfSome (D.disk disk.new).content (λ now. (o : Contents) × MayHaveMode region before c o × IsSite now o × HasLeft now o left)) }
     ensures still_told { IsSome (D.disk disk.old).content → IsSome (D.disk disk.new).content }
     ensures simulated { (D.disk disk.new).simulated ≡ (D.disk disk.old).simulated }
-    ensures later { (D.disk disk.old).faults ≤ (D.disk disk.new).faults }
-    ensures count { (fault : ℕ) → IsErrOf result (RollError.Failed fault) → fault ≡ (D.disk disk.new).faults }
-    ensures cause { (fault : ℕ) → IsErrOf result (RollError.Failed fault) → Rose (D.disk disk.old).faults (D.disk disk.new).faults }
+    ensures faults { MayFail (D.disk disk.old).faults (D.disk disk.new).faults (λ fault. IsErrOf result (RollError.Failed fault)) }
     ensures causes { OnErr result (((fault : ℕ) × IsErrOf result (RollError.Failed fault)) ⊎ ((file : ℕ) × (offset : ℕ) × IsErrOf result (RollError.NotAFile file offset)) ⊎ IsErrOf result RollError.NoMemory) }
 {
     let log = match read_instance(alloc, disk) {
@@ -129,9 +125,7 @@ pub fn set_mode_logged<D: Disk>(
     ensures stands { IfSome (D.disk disk.old).content (λ files. (c : Contents) (left : Leftover) → IsSite files c → HasLeft files c left → IfSome (D.disk disk.new).content (λ now. (o : Contents) × MayHaveMode region before c o × IsSite now o × HasLeft now o left)) }
     ensures still_told { IsSome (D.disk disk.old).content → IsSome (D.disk disk.new).content }
     ensures simulated { (D.disk disk.new).simulated ≡ (D.disk disk.old).simulated }
-    ensures later { (D.disk disk.old).faults ≤ (D.disk disk.new).faults }
-    ensures count { (fault : ℕ) → IsErrOf result (RollError.Failed fault) → fault ≡ (D.disk disk.new).faults }
-    ensures cause { (fault : ℕ) → IsErrOf result (RollError.Failed fault) → Rose (D.disk disk.old).faults (D.disk disk.new).faults }
+    ensures faults { MayFail (D.disk disk.old).faults (D.disk disk.new).faults (λ fault. IsErrOf result (RollError.Failed fault)) }
     ensures causes { OnErr result (((fault : ℕ) × IsErrOf result (RollError.Failed fault)) ⊎ ((file : ℕ) × (offset : ℕ) × IsErrOf result (RollError.NotAFile file offset)) ⊎ IsErrOf result RollError.NoMemory) }
 {
     append_mode(alloc, disk, log, region, before)

@@ -19,7 +19,7 @@ use Rattle.block_laws.proofs.Appends.{chosen_all}
 use Rattle.before_image.specs.Images.{is_free, placed_images}
 use Rattle.block_pool.specs.Pool.{is_dirty}
 use Rattle.region_store.specs.Region.{Standing, HoldsRegion, IsHeld, image_at, images_below, changed_images, with_marks, logged_marks, AreLogged}
-use Rattle.site_regions.specs.Joined.{Joined, no_region}
+use Rattle.region_store.specs.Joined.{Joined, no_region}
 use Rattle.region_epochs.specs.Kept.{image_records, images_in, IsRegionKept}
 
 -- ---- images as they stand on the file may be appended

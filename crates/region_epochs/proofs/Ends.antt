@@ -30,7 +30,7 @@ use Rattle.region_journals.specs.declared.journals.RegionJournal.{RegionJournal}
 use Rattle.region_journals.specs.Fronts.{IsNewestFile, HasFirst}
 use Rattle.region_journals.specs.Journals.{AreReady, KeepsJournals, listed}
 use Rattle.region_journals.proofs.Turns.{found}
-use Rattle.site_regions.specs.Joined.{Joined, region_at}
+use Rattle.region_store.specs.Joined.{Joined, region_at}
 use Rattle.region_epochs.specs.declared.flushing.Flushed.{Flushed}
 use Rattle.region_epochs.specs.Flushed.{AreEpochs, AreRestored, one_each}
 use Rattle.region_epochs.specs.Kept.{EachIsSound, IsKept, IsStillSound, IsRegionKept, IsEpochFront, Images, WithEpoch}

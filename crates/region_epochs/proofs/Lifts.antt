@@ -2,8 +2,8 @@
 use Rattle.std.proofs.Common.{◌≡◌, ◌≤◌, ◌<◌, ◌+◌, ℕ, length, inl, inr, refl, sym, ◌∙◌, ap, subst, arith}
 use Rattle.std.proofs.lemmas.Bool.{cases_eq}
 use Rattle.region_store.specs.Region.{Standing}
-use Rattle.site_regions.specs.Joined.{Joined, IsSameElsewhere, region_at}
-use Rattle.site_regions.proofs.Making.{region_elsewhere}
+use Rattle.region_store.specs.Joined.{Joined, IsSameElsewhere, region_at}
+use Rattle.region_store.proofs.Making.{region_elsewhere}
 use Rattle.region_epochs.specs.Taken.{HasSameNodes}
 
 pub none_yet : (j : Joined) → HasSameNodes j j

@@ -19,7 +19,7 @@ use Rattle.region_store.specs.Region.{Standing, IsHeld, changed_images}
 use Rattle.region_journals.specs.declared.journals.RegionJournal.{RegionJournal}
 use Rattle.region_journals.specs.Fronts.{IsNewestFile, HasFirst}
 use Rattle.region_journals.specs.Journals.{AreReady, KeepsJournals}
-use Rattle.site_regions.specs.Joined.{Joined, region_at}
+use Rattle.region_store.specs.Joined.{Joined, region_at}
 use Rattle.region_epochs.specs.Kept.{image_records, images_in, EachIsSound, IsKept, IsStillSound, Images}
 use Rattle.region_epochs.specs.Taken.{IsImaged}
 use Rattle.region_epochs.proofs.Reading.{begins}

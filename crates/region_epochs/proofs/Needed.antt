@@ -15,7 +15,7 @@ use Rattle.jnl_record.specs.Values.{record_value}
 use Rattle.region_journals.specs.declared.journals.RegionJournal.{RegionJournal}
 use Rattle.region_journals.specs.Journals.{KeepsJournals}
 use Rattle.region_journals.specs.Logging.{in_region}
-use Rattle.site_regions.specs.Joined.{Joined, region_at}
+use Rattle.region_store.specs.Joined.{Joined, region_at}
 use Rattle.region_epochs.specs.Errors.{from_journal}
 use Rattle.region_epochs.specs.Kept.{image_records, image_needed}
 use Rattle.region_epochs.specs.declared.error.EpochError.TheVariants.{NoMemory}

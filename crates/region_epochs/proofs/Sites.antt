@@ -24,7 +24,7 @@ use Rattle.block_laws.proofs.Appends.{none_past_all, survives_newest}
 use Rattle.block_laws.proofs.Writing as writing
 use Rattle.region_store.specs.Region.{IsCutShort}
 use Rattle.region_journals.specs.Fronts.{IsNewestFile, HasFirst}
-use Rattle.site_regions.specs.Joined.{Joined, region_at}
+use Rattle.region_store.specs.Joined.{Joined, region_at}
 use Rattle.region_epochs.specs.Files.{IsDatabaseFile}
 use Rattle.region_epochs.specs.Flushed.{AreCutShort}
 use Rattle.region_epochs.specs.Kept.{image_records, EachIsSound, IsStillSound}

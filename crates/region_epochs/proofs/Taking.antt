@@ -17,7 +17,7 @@ use Rattle.block_laws.specs.Several.{MayChange}
 use Rattle.region_store.specs.Region.{Standing, HoldsRegion, IsHeld, IsCutShort, flushed}
 use Rattle.region_journals.specs.declared.journals.RegionJournal.{RegionJournal}
 use Rattle.region_journals.specs.Fronts.{IsNewestFile}
-use Rattle.site_regions.specs.Joined.{Joined, region_at}
+use Rattle.region_store.specs.Joined.{Joined, region_at}
 use Rattle.region_epochs.specs.declared.flushing.Flushed.{Flushed}
 use Rattle.region_epochs.specs.Files.{IsDatabaseFile, IsEpochFile}
 use Rattle.region_epochs.specs.Flushed.{AreEpochs, AreCutShort}

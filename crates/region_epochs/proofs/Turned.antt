@@ -14,7 +14,7 @@ use Rattle.region_journals.specs.declared.journals.RegionJournal.{RegionJournal}
 use Rattle.region_journals.specs.Fronts.{IsNewestFile}
 use Rattle.region_journals.specs.Journals.{AreReady, KeepsJournals}
 use Rattle.region_journals.specs.Logging.{in_region}
-use Rattle.site_regions.specs.Joined.{Joined, region_at}
+use Rattle.region_store.specs.Joined.{Joined, region_at}
 use Rattle.region_epochs.specs.Kept.{images_in, image_records}
 use Rattle.region_epochs.proofs.Blocks.{no_images_past}
 use Rattle.region_epochs.proofs.Logs.{JournalsStay, told_then, apart}

@@ -22,8 +22,8 @@ use Rattle.jnl_record.specs.declared.record.JnlRecord.TheVariants.{Pini, Epoch, 
 use Rattle.jnl_record.specs.Values.{record_value, IsFirstVersion}
 use Rattle.region_store.specs.Region.{Standing, HoldsRegion, IsHeld, IsCutShort, flushed}
 use Rattle.region_journals.specs.Logging.{MayBeAppended}
-use Rattle.site_regions.specs.Joined.{Joined, IsSameElsewhere, region_at}
-use Rattle.site_regions.proofs.Making.{region_elsewhere}
+use Rattle.region_store.specs.Joined.{Joined, IsSameElsewhere, region_at}
+use Rattle.region_store.proofs.Making.{region_elsewhere}
 use Rattle.region_epochs.specs.declared.flushing.Flushed.{Flushed}
 use Rattle.region_epochs.specs.Files.{IsDatabaseFile}
 use Rattle.region_epochs.specs.Flushed.{AreEpochs, AreRestored, AreCutShort}

@@ -14,7 +14,7 @@ use Rattle.jnl_record.specs.Values.{record_value}
 use Rattle.region_store.specs.Region.{AreLogged, IsCutShort}
 use Rattle.region_journals.specs.Journals.{listed}
 use Rattle.region_journals.specs.Logging.{MayBeAppended}
-use Rattle.site_regions.specs.Joined.{Joined, region_at}
+use Rattle.region_store.specs.Joined.{Joined, region_at}
 use Rattle.region_epochs.specs.declared.flushing.Flushed.{Flushed}
 use Rattle.region_epochs.specs.Files.{IsDatabaseFile}
 use Rattle.region_epochs.specs.Taken.{mark_of}

@@ -17,7 +17,7 @@ use Rattle.before_image.specs.Images.{first_image}
 use Rattle.region_store.specs.Region.{Standing, HoldsRegion, IsHeld, changed_images}
 use Rattle.region_journals.specs.declared.journals.RegionJournal.{RegionJournal}
 use Rattle.region_journals.specs.Journals.{AreReady, KeepsJournals}
-use Rattle.site_regions.specs.Joined.{Joined, region_at}
+use Rattle.region_store.specs.Joined.{Joined, region_at}
 
 -- images as records of a journal
 abbrev pub image_records : List Before → List JournalRecord

@@ -9,7 +9,7 @@ use Rattle.journal_defs.specs.Epochs.{chosen}
 use Rattle.journal_defs.specs.Undo.{fresh}
 use Rattle.region_store.specs.Region.{IsFlushed}
 use Rattle.region_journals.specs.declared.journals.RegionJournal.{RegionJournal}
-use Rattle.site_regions.specs.Joined.{Joined, region_at, parts_in}
+use Rattle.region_store.specs.Joined.{Joined, region_at, parts_in}
 use Rattle.region_epochs.specs.Kept.{IsKept, HasMore, image_records}
 
 -- The regions have the same nodes in the same files.

@@ -1,7 +1,7 @@
 //! The EPOCH of each region in its journal, and marks that begin anew.
-ghost use Rattle.std.specs.Prelude.{◌≡◌, ◌≤◌, ◌<◌, ℕ, suc, Bool, false, [], List, length, replicate, slice_get, Some, IfSome, OnOk, IsErrOf};
+ghost use Rattle.std.specs.Prelude.{◌≡◌, ◌<◌, ℕ, suc, Bool, false, [], List, length, replicate, slice_get, Some, IfSome, OnOk, IsErrOf};
 ghost use Rattle.std.specs.List.{AllByRecursion};
-ghost use Rattle.disk_defs.specs.Disk.{AtEachMoment, Rose};
+ghost use Rattle.disk_defs.specs.Disk.{AtEachMoment, MayFailUncounted};
 ghost use Rattle.disk_defs.specs.Frames.{OnlyIn, OthersStay};
 ghost use Rattle.global_defs.specs.Entry.{Sequence};
 ghost use Rattle.journal_defs.specs.Journal.{JournalRecord, Mark};
@@ -12,7 +12,7 @@ ghost use Rattle.region_store.specs.Region.{HoldsRegion, IsFlushed, with_marks};
 ghost use Rattle.region_journals.specs.Fronts.{IsNewestFile, HasFirst};
 ghost use Rattle.region_journals.specs.Journals.{AreReady, KeepsJournals};
 ghost use Rattle.region_journals.specs.Logging.{MayBeAppended};
-ghost use Rattle.site_regions.specs.Joined.{region_at};
+ghost use Rattle.region_store.specs.Joined.{region_at};
 ghost use Rattle.region_epochs.specs.Flushed.{AreEpochs, AreRestored, one_each};
 ghost use Rattle.region_epochs.specs.Kept.{IsTogether, IsKept, IsStillSound};
 ghost use Rattle.region_epochs.specs.Taken.{HasSameNodes, IsTaken};
@@ -22,8 +22,8 @@ use crate::flushing::Flushed;
 use before_image::Imaged;
 use jnl_record::JnlRecord;
 use region_journals::RegionJournals;
+use region_store::Regions;
 use repl_disk::Disk;
-use site_regions::Regions;
 
 /// Appends to each region's journal the record of its number. Nothing waits in the journals before.
 pub(crate) fn log_each<D: Disk>(
@@ -39,8 +39,7 @@ pub(crate) fn log_each<D: Disk>(
     ensures count { length journals.new.journals.items ≡ length journals.old.journals.items }
     ensures any_moment { (g : ℕ) (hard : ℕ → List JournalRecord) → AreReady (D.disk disk.old) g journals.old.journals.items → KeepsJournals (D.disk disk.old) hard (λ r. []) journals.old.journals.items → AtEachMoment (D.disk disk.old) (D.disk disk.new) (OnlyIn (D.disk disk.old) (IsNewestFile g (length journals.old.journals.items)) (HasFirst g (length journals.old.journals.items) hard (λ r. []) (λ r. 0))) }
     ensures frame { (g : ℕ) → AreReady (D.disk disk.old) g journals.old.journals.items → OthersStay (IsNewestFile g (length journals.old.journals.items)) (D.disk disk.old) (D.disk disk.new) }
-    ensures later { (D.disk disk.old).faults ≤ (D.disk disk.new).faults }
-    ensures cause { IsErrOf result EpochError.Failed → Rose (D.disk disk.old).faults (D.disk disk.new).faults }
+    ensures faults { MayFailUncounted (D.disk disk.old).faults (D.disk disk.new).faults (IsErrOf result EpochError.Failed) }
 {
     for region in 0..records.len() {
         journals.append_records(disk, region, &records[region..region + 1])?;
@@ -80,8 +79,7 @@ pub(crate) fn end_epoch<D: Disk>(
     ensures frame { (g : ℕ) → AreReady (D.disk disk.old) g journals.old.journals.items → OthersStay (IsNewestFile g (length journals.old.journals.items)) (D.disk disk.old) (D.disk disk.new) }
     ensures count { length journals.new.journals.items ≡ length journals.old.journals.items }
     ensures same { HasSameNodes regions.old regions.new }
-    ensures later { (D.disk disk.old).faults ≤ (D.disk disk.new).faults }
-    ensures cause { IsErrOf result EpochError.Failed → Rose (D.disk disk.old).faults (D.disk disk.new).faults }
+    ensures faults { MayFailUncounted (D.disk disk.old).faults (D.disk disk.new).faults (IsErrOf result EpochError.Failed) }
 {
     log_each(disk, journals, made.epochs.as_slice())?;
     journals.harden(disk)?;

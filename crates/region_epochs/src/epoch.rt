@@ -1,6 +1,6 @@
 //! An epoch of all regions of a site.
-ghost use Rattle.std.specs.Prelude.{◌≡◌, ◌⊎◌, ◌≤◌, ◌<◌, ◌++◌, ◌^◌, ℕ, suc, List, length, OnOk, OnErr, IsErrOf};
-ghost use Rattle.disk_defs.specs.Disk.{AtEachMoment, Rose};
+ghost use Rattle.std.specs.Prelude.{◌≡◌, ◌⊎◌, ◌<◌, ◌++◌, ◌^◌, ℕ, suc, List, length, OnOk, OnErr, IsErrOf};
+ghost use Rattle.disk_defs.specs.Disk.{AtEachMoment, MayFailUncounted};
 ghost use Rattle.disk_defs.specs.Frames.{OnlyIn, OthersStay};
 ghost use Rattle.global_defs.specs.Entry.{Sequence};
 ghost use Rattle.journal_defs.specs.Journal.{JournalRecord};
@@ -15,8 +15,8 @@ use crate::error::EpochError;
 use crate::flushing::flush_regions;
 use crate::imaging::log_images;
 use region_journals::RegionJournals;
+use region_store::Regions;
 use repl_disk::Disk;
-use site_regions::Regions;
 use std::alloc::Global;
 
 /// Brings a site to an epoch of so many entries: it appends the images that the regions need to the newest journals and hardens them,
@@ -43,8 +43,7 @@ pub fn take_epoch<D: Disk>(
     ensures frame { (g : ℕ) → AreReady (D.disk disk.old) g journals.old.journals.items → OthersStay (IsEpochFile g (length journals.old.journals.items)) (D.disk disk.old) (D.disk disk.new) }
     ensures count { length journals.new.journals.items ≡ length journals.old.journals.items }
     ensures same { HasSameNodes regions.old regions.new }
-    ensures later { (D.disk disk.old).faults ≤ (D.disk disk.new).faults }
-    ensures cause { IsErrOf result EpochError.Failed → Rose (D.disk disk.old).faults (D.disk disk.new).faults }
+    ensures faults { MayFailUncounted (D.disk disk.old).faults (D.disk disk.new).faults (IsErrOf result EpochError.Failed) }
     ensures causes { OnErr result (IsErrOf result EpochError.Failed ⊎ IsErrOf result EpochError.NoMemory) }
 {
     log_images(alloc, disk, journals, regions)?;

@@ -1,11 +1,11 @@
 //! The changed blocks of all regions, written out.
-ghost use Rattle.std.specs.Prelude.{◌≡◌, ◌≤◌, ◌<◌, ◌^◌, ◌++◌, ◌∷◌, [], ℕ, length, IfSome, IfOk, OnOk, IsErrOf};
-ghost use Rattle.disk_defs.specs.Disk.{Image, From, AtEachMoment, IsDurable, Rose};
+ghost use Rattle.std.specs.Prelude.{◌≡◌, ◌<◌, ◌^◌, ◌++◌, ◌∷◌, [], ℕ, length, IfSome, IfOk, OnOk, IsErrOf};
+ghost use Rattle.disk_defs.specs.Disk.{Image, From, AtEachMoment, IsDurable, MayFailUncounted};
 ghost use Rattle.disk_defs.specs.Frames.{OthersStay};
 ghost use Rattle.journal_defs.specs.Numbers.{database_file};
 ghost use Rattle.journal_defs.specs.Epochs.{Chosen};
 ghost use Rattle.region_store.specs.Region.{HoldsRegion, IsHeld, flushed};
-ghost use Rattle.site_regions.specs.Joined.{region_at};
+ghost use Rattle.region_store.specs.Joined.{region_at};
 ghost use Rattle.region_epochs.specs.Files.{IsDatabaseFile};
 ghost use Rattle.region_epochs.specs.Flushed.{AreWritable, AreEpochs, AreRestored, AreCutShort};
 ghost use Rattle.region_epochs.specs.Taken.{HasSameNodes};
@@ -14,8 +14,8 @@ use crate::error::EpochError;
 use before_image::Imaged;
 use gvn_key::NoMemory;
 use jnl_record::JnlRecord;
+use region_store::Regions;
 use repl_disk::Disk;
-use site_regions::Regions;
 use std::alloc::Global;
 
 /// What is kept of regions that are written out, by region.
@@ -70,8 +70,7 @@ pub(crate) fn flush_regions<D: Disk>(
     ensures same { HasSameNodes regions.old regions.new }
     ensures any_moment { AtEachMoment (D.disk disk.old) (D.disk disk.new) (From (Image (D.disk disk.old)) (AreCutShort regions.old)) }
     ensures frame { OthersStay (IsDatabaseFile (length regions.old.regions)) (D.disk disk.old) (D.disk disk.new) }
-    ensures later { (D.disk disk.old).faults ≤ (D.disk disk.new).faults }
-    ensures cause { IsErrOf result EpochError.Failed → Rose (D.disk disk.old).faults (D.disk disk.new).faults }
+    ensures faults { MayFailUncounted (D.disk disk.old).faults (D.disk disk.new).faults (IsErrOf result EpochError.Failed) }
 {
     let mut made = Flushed::new(alloc);
     for region in 0..regions.count() {

@@ -1,6 +1,6 @@
 //! The images that regions need, in their journals.
-ghost use Rattle.std.specs.Prelude.{◌≡◌, ◌≤◌, ◌<◌, ◌++◌, ℕ, suc, [], List, length, IfSome, OnOk, IsErrOf};
-ghost use Rattle.disk_defs.specs.Disk.{AtEachMoment, Rose};
+ghost use Rattle.std.specs.Prelude.{◌≡◌, ◌<◌, ◌++◌, ℕ, suc, [], List, length, IfSome, OnOk, IsErrOf};
+ghost use Rattle.disk_defs.specs.Disk.{AtEachMoment, MayFailUncounted};
 ghost use Rattle.disk_defs.specs.Frames.{OnlyIn, OthersStay};
 ghost use Rattle.global_defs.specs.Entry.{Sequence};
 ghost use Rattle.journal_defs.specs.Journal.{JournalRecord};
@@ -12,15 +12,15 @@ ghost use Rattle.region_store.specs.Region.{HoldsRegion, IsHeld, AreLogged, with
 ghost use Rattle.region_journals.specs.Fronts.{IsNewestFile, HasFirst};
 ghost use Rattle.region_journals.specs.Journals.{AreReady, KeepsJournals};
 ghost use Rattle.region_journals.specs.Logging.{in_region};
-ghost use Rattle.site_regions.specs.Joined.{region_at};
+ghost use Rattle.region_store.specs.Joined.{region_at};
 ghost use Rattle.region_epochs.specs.Kept.{IsTogether, IsKept, IsStillSound, images_in};
 ghost use Rattle.region_epochs.specs.Taken.{HasSameNodes, IsImaged};
 
 use crate::error::EpochError;
 use crate::images::Images;
 use region_journals::RegionJournals;
+use region_store::Regions;
 use repl_disk::Disk;
-use site_regions::Regions;
 use std::alloc::Global;
 
 /// Appends the images that one region needs to its journal.
@@ -41,8 +41,7 @@ fn log_region<D: Disk>(
     ensures count { length journals.new.journals.items ≡ length journals.old.journals.items }
     ensures any_moment { (g : ℕ) (hard waiting : ℕ → List JournalRecord) → AreReady (D.disk disk.old) g journals.old.journals.items → KeepsJournals (D.disk disk.old) hard waiting journals.old.journals.items → AtEachMoment (D.disk disk.old) (D.disk disk.new) (OnlyIn (D.disk disk.old) (IsNewestFile g (length journals.old.journals.items)) (HasFirst g (length journals.old.journals.items) hard waiting (λ r. 0))) }
     ensures frame { (g : ℕ) → AreReady (D.disk disk.old) g journals.old.journals.items → OthersStay (IsNewestFile g (length journals.old.journals.items)) (D.disk disk.old) (D.disk disk.new) }
-    ensures later { (D.disk disk.old).faults ≤ (D.disk disk.new).faults }
-    ensures cause { IsErrOf result EpochError.Failed → Rose (D.disk disk.old).faults (D.disk disk.new).faults }
+    ensures faults { MayFailUncounted (D.disk disk.old).faults (D.disk disk.new).faults (IsErrOf result EpochError.Failed) }
 {
     let mut images = Images::new(alloc);
     regions.log_changed(number, disk, &mut images)?;
@@ -63,8 +62,7 @@ pub(crate) fn log_regions<D: Disk>(
     ensures count { length journals.new.journals.items ≡ length journals.old.journals.items }
     ensures any_moment { (g : ℕ) (hard : ℕ → List JournalRecord) → AreReady (D.disk disk.old) g journals.old.journals.items → KeepsJournals (D.disk disk.old) hard (λ r. []) journals.old.journals.items → AtEachMoment (D.disk disk.old) (D.disk disk.new) (OnlyIn (D.disk disk.old) (IsNewestFile g (length journals.old.journals.items)) (HasFirst g (length journals.old.journals.items) hard (λ r. []) (λ r. 0))) }
     ensures frame { (g : ℕ) → AreReady (D.disk disk.old) g journals.old.journals.items → OthersStay (IsNewestFile g (length journals.old.journals.items)) (D.disk disk.old) (D.disk disk.new) }
-    ensures later { (D.disk disk.old).faults ≤ (D.disk disk.new).faults }
-    ensures cause { IsErrOf result EpochError.Failed → Rose (D.disk disk.old).faults (D.disk disk.new).faults }
+    ensures faults { MayFailUncounted (D.disk disk.old).faults (D.disk disk.new).faults (IsErrOf result EpochError.Failed) }
 {
     for number in 0..regions.count() {
         log_region(alloc, disk, journals, regions, number)?;
@@ -101,8 +99,7 @@ pub(crate) fn log_images<D: Disk>(
     ensures frame { (g : ℕ) → AreReady (D.disk disk.old) g journals.old.journals.items → OthersStay (IsNewestFile g (length journals.old.journals.items)) (D.disk disk.old) (D.disk disk.new) }
     ensures count { length journals.new.journals.items ≡ length journals.old.journals.items }
     ensures same { HasSameNodes regions.old regions.new }
-    ensures later { (D.disk disk.old).faults ≤ (D.disk disk.new).faults }
-    ensures cause { IsErrOf result EpochError.Failed → Rose (D.disk disk.old).faults (D.disk disk.new).faults }
+    ensures faults { MayFailUncounted (D.disk disk.old).faults (D.disk disk.new).faults (IsErrOf result EpochError.Failed) }
 {
     log_regions(alloc, disk, journals, regions)?;
     journals.harden(disk)?;

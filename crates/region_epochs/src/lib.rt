@@ -9,8 +9,7 @@
 //! # Modules
 //!
 //! `epoch` is the whole call. `images` is the list of images that wait for a journal, `imaging` logs them in all regions and
-//! `logging` one of them, `flushing`
-//! writes all regions out and `closing` ends the epoch before.
+//! `logging` one of them, `flushing` writes all regions out and `closing` ends the epoch before.
 #![tactic(auto)]
 
 mod closing;

@@ -1,6 +1,6 @@
 //! The image of one block, in its region's journal.
-ghost use Rattle.std.specs.Prelude.{◌≡◌, ◌⊎◌, ◌≤◌, ◌<◌, ◌++◌, ℕ, List, length, IfSome, OnOk, OnErr, IsErrOf};
-ghost use Rattle.disk_defs.specs.Disk.{AtEachMoment, Rose};
+ghost use Rattle.std.specs.Prelude.{◌≡◌, ◌⊎◌, ◌<◌, ◌++◌, ℕ, List, length, IfSome, OnOk, OnErr, IsErrOf};
+ghost use Rattle.disk_defs.specs.Disk.{AtEachMoment, MayFailUncounted};
 ghost use Rattle.disk_defs.specs.Frames.{OnlyIn, OthersStay};
 ghost use Rattle.journal_defs.specs.Journal.{JournalRecord};
 ghost use Rattle.journal_defs.specs.Epochs.{Chosen};
@@ -10,14 +10,14 @@ ghost use Rattle.region_store.specs.Region.{HoldsRegion, with_marks};
 ghost use Rattle.region_journals.specs.Fronts.{IsNewestFile, HasFirst};
 ghost use Rattle.region_journals.specs.Journals.{AreReady, KeepsJournals};
 ghost use Rattle.region_journals.specs.Logging.{in_region};
-ghost use Rattle.site_regions.specs.Joined.{IsSameElsewhere, region_at};
+ghost use Rattle.region_store.specs.Joined.{IsSameElsewhere, region_at};
 ghost use Rattle.region_epochs.specs.Kept.{IsTogether, image_records, image_needed};
 
 use crate::error::EpochError;
 use crate::images::Images;
 use region_journals::RegionJournals;
+use region_store::Regions;
 use repl_disk::Disk;
-use site_regions::Regions;
 use std::alloc::Global;
 
 /// Appends the image of one block of a region to its journal, behind what waits there, and keeps that it has one: its bytes as they stand
@@ -48,8 +48,7 @@ pub fn log_first_image<D: Disk>(
     ensures count { length journals.new.journals.items ≡ length journals.old.journals.items }
     ensures any_moment { (g : ℕ) (hard waiting : ℕ → List JournalRecord) → AreReady (D.disk disk.old) g journals.old.journals.items → KeepsJournals (D.disk disk.old) hard waiting journals.old.journals.items → AtEachMoment (D.disk disk.old) (D.disk disk.new) (OnlyIn (D.disk disk.old) (IsNewestFile g (length journals.old.journals.items)) (HasFirst g (length journals.old.journals.items) hard waiting (λ r. 0))) }
     ensures frame { (g : ℕ) → AreReady (D.disk disk.old) g journals.old.journals.items → OthersStay (IsNewestFile g (length journals.old.journals.items)) (D.disk disk.old) (D.disk disk.new) }
-    ensures later { (D.disk disk.old).faults ≤ (D.disk disk.new).faults }
-    ensures cause { IsErrOf result EpochError.Failed → Rose (D.disk disk.old).faults (D.disk disk.new).faults }
+    ensures faults { MayFailUncounted (D.disk disk.old).faults (D.disk disk.new).faults (IsErrOf result EpochError.Failed) }
     ensures causes { OnErr result (IsErrOf result EpochError.Failed ⊎ IsErrOf result EpochError.NoMemory) }
 {
     let mut images = Images::new(alloc);

@@ -1,7 +1,7 @@
 //! Appending records to one region's journal.
-ghost use Rattle.std.specs.Prelude.{◌≡◌, ◌≤◌, ◌<◌, ◌++◌, ◌∷◌, ◌⊎◌, ℕ, List, [], length, map, take, IsTrue, OnOk, OnErr, IsErrOf};
+ghost use Rattle.std.specs.Prelude.{◌≡◌, ◌<◌, ◌++◌, ◌∷◌, ◌⊎◌, ℕ, List, [], length, map, take, IsTrue, OnOk, OnErr, IsErrOf};
 ghost use Rattle.std.specs.List.{AllByRecursion};
-ghost use Rattle.disk_defs.specs.Disk.{AtEachMoment, Rose};
+ghost use Rattle.disk_defs.specs.Disk.{AtEachMoment, MayFailUncounted};
 ghost use Rattle.disk_defs.specs.Frames.{Only, OnlyIn, OnlyOn, OthersStay};
 ghost use Rattle.journal_defs.specs.Journal.{JournalRecord};
 ghost use Rattle.jnl_record.specs.Values.{record_value};
@@ -26,8 +26,7 @@ impl RegionJournal {
         ensures none { IsErrOf result JournalError.NoMemory → HasLogged (D.disk disk.old) (D.disk disk.new) [] self.old self.new }
         ensures any_moment { (hard waiting : List JournalRecord) → files.HasRecords (D.disk disk.old) self.old.journal (record { hard = hard; opening = []; closed = waiting }) → AtEachMoment (D.disk disk.old) (D.disk disk.new) (OnlyOn (D.disk disk.old) self.old.journal.gated.file (StandsRecords hard [])) }
         ensures frame { OthersStay (Only self.old.journal.gated.file) (D.disk disk.old) (D.disk disk.new) }
-        ensures later { (D.disk disk.old).faults ≤ (D.disk disk.new).faults }
-        ensures cause { IsErrOf result JournalError.Failed → Rose (D.disk disk.old).faults (D.disk disk.new).faults }
+        ensures faults { MayFailUncounted (D.disk disk.old).faults (D.disk disk.new).faults (IsErrOf result JournalError.Failed) }
         ensures causes { OnErr result (IsErrOf result JournalError.Failed ⊎ IsErrOf result JournalError.NoMemory) }
     {
         self.journal.prepare(disk, what)?;
@@ -45,8 +44,7 @@ impl RegionJournal {
         ensures fewer { IsErrOf result JournalError.NoMemory → (k : ℕ) × (k < length records.now) × HasLogged (D.disk disk.old) (D.disk disk.new) (take k (map record_value records.now)) self.old self.new }
         ensures any_moment { (hard waiting : List JournalRecord) → files.HasRecords (D.disk disk.old) self.old.journal (record { hard = hard; opening = []; closed = waiting }) → AtEachMoment (D.disk disk.old) (D.disk disk.new) (OnlyOn (D.disk disk.old) self.old.journal.gated.file (StandsRecords hard [])) }
         ensures frame { OthersStay (Only self.old.journal.gated.file) (D.disk disk.old) (D.disk disk.new) }
-        ensures later { (D.disk disk.old).faults ≤ (D.disk disk.new).faults }
-        ensures cause { IsErrOf result JournalError.Failed → Rose (D.disk disk.old).faults (D.disk disk.new).faults }
+        ensures faults { MayFailUncounted (D.disk disk.old).faults (D.disk disk.new).faults (IsErrOf result JournalError.Failed) }
         ensures causes { OnErr result (IsErrOf result JournalError.Failed ⊎ IsErrOf result JournalError.NoMemory) }
     {
         for what in records {
@@ -79,8 +77,7 @@ impl RegionJournals {
         ensures count { length self.new.journals.items ≡ length self.old.journals.items }
         ensures any_moment { (g : ℕ) (hard waiting : ℕ → List JournalRecord) → AreReady (D.disk disk.old) g self.old.journals.items → KeepsJournals (D.disk disk.old) hard waiting self.old.journals.items → AtEachMoment (D.disk disk.old) (D.disk disk.new) (OnlyIn (D.disk disk.old) (IsNewestFile g (length self.old.journals.items)) (HasFirst g (length self.old.journals.items) hard waiting (λ r. 0))) }
         ensures frame { (g : ℕ) → AreReady (D.disk disk.old) g self.old.journals.items → OthersStay (IsNewestFile g (length self.old.journals.items)) (D.disk disk.old) (D.disk disk.new) }
-        ensures later { (D.disk disk.old).faults ≤ (D.disk disk.new).faults }
-        ensures cause { IsErrOf result JournalError.Failed → Rose (D.disk disk.old).faults (D.disk disk.new).faults }
+        ensures faults { MayFailUncounted (D.disk disk.old).faults (D.disk disk.new).faults (IsErrOf result JournalError.Failed) }
         ensures causes { OnErr result (IsErrOf result JournalError.Failed ⊎ IsErrOf result JournalError.NoMemory) }
     {
         self.journals[region].log_all(disk, records)

@@ -15,7 +15,7 @@ use Rattle.region_store.specs.Region.{Standing, IsChanged}
 use Rattle.jnl_file.proofs.Newer.{all_told}
 use Rattle.entry_index.specs.declared.index.EntryIndex.{EntryIndex}
 use Rattle.entry_index.specs.Indexes.{Indexes}
-use Rattle.site_regions.proofs.Lists.{get-set_same, get-set_other, there}
+use Rattle.region_store.proofs.Lists.{get-set_same, get-set_other, there}
 use Rattle.region_opening.specs.Opening.{are_home}
 use Rattle.region_opening.specs.Replaying.{AreBecome, updates_behind, IsGivenEntry, IsGivenUpTo}
 use Rattle.region_opening.proofs.Homes.{stay_home}

@@ -7,9 +7,9 @@ use Rattle.journal_defs.specs.Instance.{InstanceRecord}
 use Rattle.journal_defs.specs.Sequence.{Placed}
 use Rattle.journal_defs.specs.Epochs.{Chosen, epoch_in, last_epoch, chosen, beginning}
 use Rattle.jnl_file.proofs.Zips.{zip_length}
-use Rattle.jnl_index.specs.declared.placed.PlacedSign.{PlacedSign}
-use Rattle.jnl_index.specs.declared.sign.Sign.{Sign}
-use Rattle.jnl_index.specs.Signs.{sign_of}
+use Rattle.entry_index.specs.declared.placed.PlacedSign.{PlacedSign}
+use Rattle.entry_index.specs.declared.sign.Sign.{Sign}
+use Rattle.entry_index.specs.RecordSigns.{sign_of}
 use Rattle.region_opening.specs.declared.epoch.EpochAt.{EpochAt}
 use Rattle.region_opening.specs.Epochs.{chosen_at}
 use Rattle.region_opening.specs.Signs.{Says, Say, epoch_by}

@@ -13,11 +13,11 @@ use Rattle.jnl_record.specs.declared.placed.PlacedRecord.{PlacedRecord}
 use Rattle.jnl_record.specs.Values.{record_value, placed_value}
 use Rattle.jnl_file.proofs.Newer.{all_told}
 use Rattle.jnl_file.proofs.Zips.{zip_length}
-use Rattle.jnl_index.specs.declared.placed.PlacedSign.{PlacedSign}
-use Rattle.jnl_index.specs.declared.sign.Sign.{Sign}
-use Rattle.jnl_index.specs.declared.sign.Sign.TheVariants as signs
-use Rattle.jnl_index.specs.Signs.{sign_of}
-use Rattle.jnl_index.specs.Places.{StandsAt, IsSignOf}
+use Rattle.entry_index.specs.declared.placed.PlacedSign.{PlacedSign}
+use Rattle.entry_index.specs.declared.sign.Sign.{Sign}
+use Rattle.entry_index.specs.declared.sign.Sign.TheVariants as signs
+use Rattle.entry_index.specs.RecordSigns.{sign_of}
+use Rattle.entry_index.specs.Places.{StandsAt, IsSignOf}
 use Rattle.region_opening.specs.Images.{is_image, images_in}
 use Rattle.region_opening.specs.Signs.{IsDrawn, AreTold}
 use Rattle.region_opening.proofs.Said.{NO_SIGN, sign_at}

@@ -10,4 +10,6 @@ pub mod Readings
 pub mod Replays
 pub mod Said
 pub mod Starts
+pub mod Thinning
+pub mod Whole
 pub mod Without

@@ -11,7 +11,7 @@ use Rattle.journal_defs.specs.Epochs.{Blocks, Chosen, image_in, image_of, image_
 use Rattle.site_defs.specs.OutsideBlocks.{IsOutsideAt}
 use Rattle.jnl_record.specs.declared.placed.PlacedRecord.{PlacedRecord}
 use Rattle.jnl_record.specs.Values.{placed_value}
-use Rattle.jnl_index.specs.declared.placed.PlacedSign.{PlacedSign}
+use Rattle.entry_index.specs.declared.placed.PlacedSign.{PlacedSign}
 use Rattle.region_store.specs.Laid.{epoch_at}
 use Rattle.region_store.specs.Region.{Standing, HoldsRegion, IsHeld, IsReplayed}
 use Rattle.region_opening.specs.Images.{images_in}

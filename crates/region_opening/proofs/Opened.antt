@@ -31,8 +31,8 @@ use Rattle.region_store.specs.Region.{Standing, HoldsRegion, IsHeld, IsReplayed}
 use Rattle.region_store.proofs.Breaks.{nothing_outside}
 use Rattle.region_store.proofs.States as states
 use Rattle.site_defs.specs.OutsideBlocks.{IsOutsideAt, AreOutside, HaveOutsideBlocks, gone_back}
-use Rattle.site_regions.specs.Joined.{ArePartsOf, no_region}
-use Rattle.jnl_index.specs.declared.placed.PlacedSign.{PlacedSign}
+use Rattle.region_store.specs.Joined.{ArePartsOf, no_region}
+use Rattle.entry_index.specs.declared.placed.PlacedSign.{PlacedSign}
 use Rattle.jnl_file.proofs.Newer.{all_told}
 use Rattle.entry_index.specs.declared.index.EntryIndex.{EntryIndex}
 use Rattle.entry_index.specs.Signs.{signs_of}
@@ -47,7 +47,8 @@ use Rattle.region_opening.specs.Replaying.{AreBecome, IsGivenUpTo}
 use Rattle.region_opening.proofs.Homes.{some_parts}
 use Rattle.region_opening.proofs.Lists.{of_mapped, of_more, mapped_at, at_place}
 use Rattle.region_opening.proofs.Said.{told_say, region_told, none_signed}
-use Rattle.site_regions.proofs.Lists.{there}
+use Rattle.region_opening.proofs.Whole.{opened_whole, all_refused_whole}
+use Rattle.region_store.proofs.Lists.{there}
 use Rattle.std.proofs.lemmas.Option.{slice_get_within}
 use Rattle.disk_defs.proofs.Told.{weaker_told, both_weak}
 use Rattle.global_defs.specs.Valid.{is_key}
@@ -451,9 +452,9 @@ held_told o rs ms same told = weaker_told o (λ files. (r : ℕ) (s : Standing) 
 pub files_are : (ps : List Pattern) (t : ℕ) (rs ms : List Standing) → ms ≡ rs → ((r : ℕ) (s : Standing) → slice_get rs r ≡ Some s → IsOwn ps t r s) → (r : ℕ) → r < length ms → (slice_index_or ms r no_region).file ≡ database_file r
 files_are ps t rs ms same own r low = (own r (slice_index_or ms r no_region) (here_in rs ms same r low)).file
 
--- its entries are transactions of their form
-given_of : (files : Files) (instance : List InstanceRecord) (signs : List (List PlacedSign)) (index : EntryIndex) (u : Records) (seq : Sequence) → AreFound files instance signs index u seq → AreGiven files instance signs index u.journal seq
-given_of files instance signs index u seq found = record { are_signs = found.are_signs; indexed = found.indexed; forms = formed.entries files u seq found.held found.sequence }
+-- its entries are transactions of their form, and the signs are those of the records that are kept
+given_of : (files : Files) (instance : List InstanceRecord) (signs : List (List PlacedSign)) (index : EntryIndex) (u : Records) (seq : Sequence) (found : AreFound files instance signs index u seq) → AreGiven files instance signs index found.are_kept.kept seq
+given_of files instance signs index u seq found = record { are_signs = found.are_kept.are; indexed = found.indexed; forms = formed.entries files u seq found.held found.sequence }
 
 -- what is told of all regions, of which these are the same
 module _ (o : Option Files) (instance : List InstanceRecord) (signs : List (List PlacedSign)) (index : EntryIndex) (t : ℕ) (some : 1 ≤ index.regions) (within : t ≤ entry_count index) (ps : List Pattern) (are : ps ≡ patterns instance)
@@ -462,13 +463,18 @@ module _ (o : Option Files) (instance : List InstanceRecord) (signs : List (List
   abbrev Told : Files → Type 0
   Told files = (journal : ℕ → List Placed) (seq : Sequence) → AreGiven files instance signs index journal seq → (r : ℕ) (s : Standing) → slice_get rs r ≡ Some s → IsOpened instance t seq (journal r) r s files
 
+  -- each region is open over all records, too
+  opened_at : (files : Files) → Told files → (u : Records) (seq : Sequence) → AreFound files instance signs index u seq → (r : ℕ) (s : Standing) → slice_get rs r ≡ Some s → IsOpened instance t seq (u.journal r) r s files
+  opened_at files opens u seq found r s here =
+      let k = found.are_kept in
+      opened_whole instance t (length seq) (u.journal r) (k.kept r) (k.thinned r) r files seq s (opens k.kept seq (given_of files instance signs index u seq found) r s here)
+
   sound_at : (files : Files) → Told files → (u : Records) (seq : Sequence) → AreFound files instance signs index u seq → IsSoundImage files u seq → ArePartsOf ps rs (take t seq)
   sound_at files opens u seq found image =
-      let given = given_of files instance signs index u seq found in
-      let many = count_is files (reigns instance) index seq some given.indexed in
+      let many = count_is files (reigns instance) index seq some found.indexed in
       subst (λ (qs : List Pattern). ArePartsOf qs rs (take t seq)) (ap patterns found.instance_is ∙ sym are)
       (sound_parts files u t seq rs (counted ∙ ap (λ (i : List InstanceRecord). length (regions i)) (sym found.instance_is))
-      (subst (λ (i : List InstanceRecord). (r : ℕ) (s : Standing) → slice_get rs r ≡ Some s → IsOpened i t seq (u.journal r) r s files) (sym found.instance_is) (opens u.journal seq given)) (omega (arith, within, many)) image)
+      (subst (λ (i : List InstanceRecord). (r : ℕ) (s : Standing) → slice_get rs r ≡ Some s → IsOpened i t seq (u.journal r) r s files) (sym found.instance_is) (opened_at files opens u seq found)) (omega (arith, within, many)) image)
 
   pub parts_told : IfSome o (λ files. (u : Records) (seq : Sequence) → AreFound files instance signs index u seq → IsSoundImage files u seq → ArePartsOf ps ms (take t seq))
   parts_told = weaker_told o Told (λ files. (u : Records) (seq : Sequence) → AreFound files instance signs index u seq → IsSoundImage files u seq → ArePartsOf ps ms (take t seq)) told
@@ -484,13 +490,14 @@ module _ (o : Option Files) (instance : List InstanceRecord) (signs : List (List
       (λ files opens u seq found r low.
       let s = slice_index_or ms r no_region in
       subst (λ (i : List InstanceRecord). NeedsForward instance t (u.journal r) ⊎ HoldsRegion (chosen i t (u.journal r)) (files (database_file r)) s) (sym found.instance_is)
-      (opens u.journal seq (given_of files instance signs index u seq found) r s (here_in rs ms same r low)).holds)
+      (opened_at files opens u seq found r s (here_in rs ms same r low)).holds)
 
 -- the first region that can't be opened, as the disk tells it
 module _ (o : Option Files) (instance : List InstanceRecord) (signs : List (List PlacedSign)) (index : EntryIndex) (t n f offset : ℕ) (some : 1 ≤ index.regions) (within : t ≤ entry_count index) (counted : n ≡ length (regions instance))
     (told : IfSome o (AreGivenRefused o instance signs index t n f offset)) where
   there_refused : (files : Files) → AreGivenRefused o instance signs index t n f offset files → (u : Records) (seq : Sequence) → AreFound files instance signs index u seq → AreRefused u.instance t seq u.journal n f offset files
-  there_refused files all u seq found = subst (λ (i : List InstanceRecord). AreRefused i t seq u.journal n f offset files) (sym found.instance_is) (all u.journal seq (given_of files instance signs index u seq found))
+  there_refused files all u seq found = subst (λ (i : List InstanceRecord). AreRefused i t seq u.journal n f offset files) (sym found.instance_is)
+      (all_refused_whole instance t (length seq) u.journal found.are_kept.kept found.are_kept.thinned seq n f offset files (all found.are_kept.kept seq (given_of files instance signs index u seq found)))
 
   pub outside_told : (aim : ℕ → ℕ) → aim (entry_count index) ≡ t → IfSome o (λ files. (u : Records) (seq : Sequence) → AreFound files instance signs index u seq → HaveOutsideBlocks aim files f offset)
   outside_told aim is = weaker_told o (AreGivenRefused o instance signs index t n f offset) (λ files. (u : Records) (seq : Sequence) → AreFound files instance signs index u seq → HaveOutsideBlocks aim files f offset) told

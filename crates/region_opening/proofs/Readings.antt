@@ -12,7 +12,7 @@ use Rattle.gvn_model.specs.Entries.{entry_value}
 use Rattle.entry_index.specs.declared.index.EntryIndex.{EntryIndex}
 use Rattle.entry_index.specs.Indexes.{Indexes}
 use Rattle.entry_index.specs.Parts.{InFiles}
-use Rattle.site_regions.proofs.Lists.{there}
+use Rattle.region_store.proofs.Lists.{there}
 
 -- what holds of all holds of one
 of_all : {X : Type 0} (P : X → Type 0) (xs : List X) (i : ℕ) (x : X) → AllByRecursion P xs → slice_get xs i ≡ Some x → P x

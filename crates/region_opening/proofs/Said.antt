@@ -5,12 +5,12 @@ use Rattle.std.proofs.lemmas.Bool.{cases_lt}
 use Rattle.std.proofs.lemmas.List.{get_or_past}
 use Rattle.disk_defs.specs.Disk.{Files}
 use Rattle.journal_defs.specs.Sequence.{Placed}
-use Rattle.jnl_index.specs.declared.placed.PlacedSign.{PlacedSign}
-use Rattle.jnl_index.specs.declared.sign.Sign.TheVariants.{Pini}
-use Rattle.jnl_index.specs.Places.{IsSignOf, AreSignsOf}
+use Rattle.entry_index.specs.declared.placed.PlacedSign.{PlacedSign}
+use Rattle.entry_index.specs.declared.sign.Sign.TheVariants.{Pini}
+use Rattle.entry_index.specs.Places.{IsSignOf, AreSignsOf}
 use Rattle.entry_index.specs.Signs.{signs_of}
 use Rattle.entry_index.specs.Indexes.{AreSigns}
-use Rattle.region_opening.specs.Signs.{Says, Say, AllSay, IsDrawn, AreTold}
+use Rattle.region_opening.specs.Signs.{Says, Say, AllTell, IsDrawn, AreTold}
 
 -- the sign that is read where there is none
 abbrev pub NO_SIGN : PlacedSign
@@ -77,7 +77,7 @@ region_told files signs journal r are = elim (cases_lt r (length signs)) [
       (subst (λ (ss : List PlacedSign). AreTold files r ss []) (sym none) (record { signs_of = tt; drawn = tt })))
 ]
 
-pub all_say : (files : Files) (signs : List (List PlacedSign)) (journal : ℕ → List Placed) → AreSigns files signs journal → AllSay signs journal
+pub all_say : (files : Files) (signs : List (List PlacedSign)) (journal : ℕ → List Placed) → AreSigns files signs journal → AllTell signs journal
 all_say files signs journal are r = told_say files r (signs_of signs r) (journal r) (region_told files signs journal r are)
 
 -- no signs are those of no records

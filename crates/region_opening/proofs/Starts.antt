@@ -5,7 +5,7 @@ use Rattle.journal_defs.specs.Instance.{InstanceRecord}
 use Rattle.journal_defs.specs.Sequence.{Placed}
 use Rattle.journal_defs.specs.Epochs.{Chosen, chosen, first_without}
 use Rattle.jnl_file.proofs.Zips.{zip_length}
-use Rattle.jnl_index.specs.declared.placed.PlacedSign.{PlacedSign}
+use Rattle.entry_index.specs.declared.placed.PlacedSign.{PlacedSign}
 use Rattle.region_opening.specs.declared.epoch.EpochAt.{EpochAt}
 use Rattle.region_opening.specs.Epochs.{chosen_at}
 use Rattle.region_opening.specs.Signs.{Says, Say}

@@ -14,7 +14,7 @@ use Rattle.journal_defs.specs.Epochs.{Chosen, BLOCK, beginning, chosen, image_st
 use Rattle.journal_defs.specs.Sound.{IsSound, region_state}
 use Rattle.region_store.specs.Region.{Standing, HoldsRegion}
 use Rattle.site_defs.specs.OutsideBlocks.{IsOutsideAt, AreOutside}
-use Rattle.jnl_index.specs.declared.placed.PlacedSign.{PlacedSign}
+use Rattle.entry_index.specs.declared.placed.PlacedSign.{PlacedSign}
 use Rattle.entry_index.specs.declared.index.EntryIndex.{EntryIndex}
 use Rattle.entry_index.specs.Indexes.{AreSigns, Indexes}
 use Rattle.entry_index.specs.Parts.{InFiles}

@@ -8,12 +8,13 @@ use Rattle.journal_defs.specs.Instance.{InstanceRecord}
 use Rattle.journal_defs.specs.Surviving.{survives}
 use Rattle.journal_defs.specs.Sequence.{Placed}
 use Rattle.journal_defs.specs.Epochs.{Chosen}
-use Rattle.jnl_index.specs.declared.placed.PlacedSign.{PlacedSign}
-use Rattle.jnl_index.specs.declared.sign.Sign.{Sign}
-use Rattle.jnl_index.specs.declared.sign.Sign.TheVariants.{Pini, Epoch, Pblk, Tcom}
-use Rattle.jnl_index.specs.Signs.{sign_of}
-use Rattle.jnl_index.specs.Places.{AreSignsOf}
+use Rattle.entry_index.specs.declared.placed.PlacedSign.{PlacedSign}
+use Rattle.entry_index.specs.declared.sign.Sign.{Sign}
+use Rattle.entry_index.specs.declared.sign.Sign.TheVariants.{Pini, Epoch, Pblk, Tcom}
+use Rattle.entry_index.specs.RecordSigns.{sign_of}
+use Rattle.entry_index.specs.Places.{AreSignsOf}
 use Rattle.entry_index.specs.Signs.{signs_of}
+use Rattle.entry_index.specs.Thinned.{IsThinned}
 
 -- the sign is that of this record, wherever it stands
 pub record Says (s : PlacedSign) (p : Placed) : Type 0 where
@@ -25,8 +26,15 @@ abbrev pub Say : List PlacedSign → List Placed → Type 0
 Say signs journal = AllZip Says signs journal
 
 -- and those of all regions
-abbrev pub AllSay : List (List PlacedSign) → (ℕ → List Placed) → Type 0
-AllSay signs journal = (r : ℕ) → Say (signs_of signs r) (journal r)
+abbrev pub AllTell : List (List PlacedSign) → (ℕ → List Placed) → Type 0
+AllTell signs journal = (r : ℕ) → Say (signs_of signs r) (journal r)
+
+-- The signs are those of the records that are kept of all regions, once some number of entries is told.
+pub record AllSay (signs : List (List PlacedSign)) (journal : ℕ → List Placed) : Type 0 where
+  pub told : ℕ
+  pub kept : ℕ → List Placed
+  pub say : AllTell signs kept
+  pub thinned : (r : ℕ) → IsThinned told None (journal r) (kept r)
 
 -- the generation is one that there may be
 abbrev pub IsDrawn : Placed → Type 0

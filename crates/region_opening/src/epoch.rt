@@ -7,8 +7,8 @@ ghost use Rattle.journal_defs.specs.Surviving.{survives};
 ghost use Rattle.region_opening.specs.Signs.{Say, epoch_by};
 ghost use Rattle.region_opening.specs.Epochs.{chosen_at};
 
+use entry_index::{PlacedSign, Sign};
 use instance_file::InstanceRecords;
-use jnl_index::{PlacedSign, Sign};
 use mupip_recover::survives;
 
 /// An epoch of a region: the number of entries at it, how many blocks its database file had, and the place of the first record

@@ -9,8 +9,8 @@ ghost use Rattle.region_opening.specs.Signs.{Say, starts_by, AreWithout};
 ghost use Rattle.region_opening.specs.Epochs.{chosen_at};
 
 use super::epoch::EpochAt;
+use entry_index::{PlacedSign, Sign};
 use gvn_key::NoMemory;
-use jnl_index::{PlacedSign, Sign};
 use std::alloc::Global;
 use std::collections::BTreeSet;
 

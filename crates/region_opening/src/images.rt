@@ -1,19 +1,19 @@
 //! Images of blocks, read from their places.
 ghost use Rattle.std.specs.Prelude.{◌≡◌, ◌≤◌, ◌<◌, ◌++◌, ◌∷◌, [], ℕ, List, map, true, IfOk, IfSome, OnOk, IsErrOf, IsTrue};
-ghost use Rattle.disk_defs.specs.Disk.{Reads, Rose};
+ghost use Rattle.disk_defs.specs.Disk.{Reads, MayFail};
 ghost use Rattle.journal_defs.specs.Journal as journal;
 ghost use Rattle.journal_defs.specs.Journal.{JournalRecord, Before, IsInForm};
 ghost use Rattle.journal_defs.specs.Numbers.{journal_file};
 ghost use Rattle.journal_defs.specs.Sequence.{Placed};
 ghost use Rattle.jnl_record.specs.Values.{record_value, placed_value};
 ghost use Rattle.block_laws.specs.Nodes.{AreFormed};
-ghost use Rattle.jnl_index.specs.Places.{StandsAt, IsSignOf};
+ghost use Rattle.entry_index.specs.Places.{StandsAt, IsSignOf};
 ghost use Rattle.region_opening.specs.Signs.{IsDrawn, AreTold};
 ghost use Rattle.region_opening.specs.Images.{images_in};
 
+use entry_index::{PlacedSign, Sign, read_placed};
 use gvn_key::NoMemory;
 use jnl_file::{JournalError, journal_file};
-use jnl_index::{PlacedSign, Sign, read_placed};
 use jnl_record::{JnlRecord, PlacedRecord};
 use region_store::RegionError;
 use repl_disk::Disk;
@@ -57,9 +57,7 @@ fn read_image<D: Disk>(
     ensures image { IfOk result (λ found. IfSome (D.disk disk.old).content (λ files. (r : JournalRecord) → StandsAt (files (journal_file generation region)) offset r → record_value found.what ≡ r)) }
     ensures outside { (f at : ℕ) → IsErrOf result (RegionError.NotAFile f at) → IfSome (D.disk disk.old).content (λ files. (i : Before) → StandsAt (files (journal_file generation region)) offset (journal.Pblk i) → generation ≤ 65535 → ⊥) }
     ensures reads { Reads (D.disk disk.old) (D.disk disk.new) }
-    ensures later { (D.disk disk.old).faults ≤ (D.disk disk.new).faults }
-    ensures count { (fault : ℕ) → IsErrOf result (RegionError.Failed fault) → fault ≡ (D.disk disk.new).faults }
-    ensures cause { (fault : ℕ) → IsErrOf result (RegionError.Failed fault) → Rose (D.disk disk.old).faults (D.disk disk.new).faults }
+    ensures faults { MayFail (D.disk disk.old).faults (D.disk disk.new).faults (λ fault. IsErrOf result (RegionError.Failed fault)) }
 {
     if generation > LAST_GENERATION {
         return Err(RegionError::NotAFile {
@@ -106,9 +104,7 @@ fn add_image<D: Disk>(
     ensures added { OnOk result (IfSome (D.disk disk.old).content (λ files. (p : Placed) → IsSignOf files region placed.now p → map placed_value made.new.items ≡ map placed_value made.old.items ++ images_in (p ∷ []))) }
     ensures outside { (f at : ℕ) → IsErrOf result (RegionError.NotAFile f at) → IfSome (D.disk disk.old).content (λ files. (p : Placed) → IsSignOf files region placed.now p → IsDrawn p → ⊥) }
     ensures reads { Reads (D.disk disk.old) (D.disk disk.new) }
-    ensures later { (D.disk disk.old).faults ≤ (D.disk disk.new).faults }
-    ensures count { (fault : ℕ) → IsErrOf result (RegionError.Failed fault) → fault ≡ (D.disk disk.new).faults }
-    ensures cause { (fault : ℕ) → IsErrOf result (RegionError.Failed fault) → Rose (D.disk disk.old).faults (D.disk disk.new).faults }
+    ensures faults { MayFail (D.disk disk.old).faults (D.disk disk.new).faults (λ fault. IsErrOf result (RegionError.Failed fault)) }
 {
     match placed.sign {
         Sign::Pblk { .. } => {
@@ -135,9 +131,7 @@ pub(crate) fn read_images<D: Disk>(
     ensures images { IfOk result (λ made. IfSome (D.disk disk.old).content (λ files. (journal : List Placed) → AreTold files region behind.now journal → map placed_value made.items ≡ images_in journal)) }
     ensures outside { (f at : ℕ) → IsErrOf result (RegionError.NotAFile f at) → IfSome (D.disk disk.old).content (λ files. (journal : List Placed) → AreTold files region behind.now journal → ⊥) }
     ensures reads { Reads (D.disk disk.old) (D.disk disk.new) }
-    ensures later { (D.disk disk.old).faults ≤ (D.disk disk.new).faults }
-    ensures count { (fault : ℕ) → IsErrOf result (RegionError.Failed fault) → fault ≡ (D.disk disk.new).faults }
-    ensures cause { (fault : ℕ) → IsErrOf result (RegionError.Failed fault) → Rose (D.disk disk.old).faults (D.disk disk.new).faults }
+    ensures faults { MayFail (D.disk disk.old).faults (D.disk disk.new).faults (λ fault. IsErrOf result (RegionError.Failed fault)) }
 {
     let mut made = Vec::new(alloc);
     for placed in behind {

@@ -8,9 +8,9 @@ ghost use Rattle.region_opening.specs.Forward.{NoneNeeds, IsFirstWithout};
 use super::epoch::chosen_epoch;
 use super::forward::first_without;
 use super::starting::signs_at;
+use entry_index::PlacedSign;
 use gvn_key::NoMemory;
 use instance_file::InstanceRecords;
-use jnl_index::PlacedSign;
 use std::alloc::Global;
 
 /// A region that needs forward recovery for a target (GT.M: its journals were NOBEFORE).

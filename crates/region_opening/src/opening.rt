@@ -2,7 +2,7 @@
 ghost use Rattle.std.specs.Prelude.{◌≡◌, ◌⊎◌, ◌*◌, ◌<◌, ◌≤◌, ◌∷◌, ◌++◌, ℕ, List, [], length, map, take, true, slice_get, slice_index, Some, IfOk, IfSome, OnOk, IsErrOf};
 ghost use Rattle.std.specs.List.{AllByRecursion};
 ghost use Rattle.std.specs.FinMap as globals;
-ghost use Rattle.disk_defs.specs.Disk.{Reads, Rose};
+ghost use Rattle.disk_defs.specs.Disk.{Reads, MayFail};
 ghost use Rattle.global_defs.specs.Entry.{Sequence, state};
 ghost use Rattle.journal_defs.specs.Numbers.{database_file};
 ghost use Rattle.journal_defs.specs.Instance.{regions};
@@ -14,7 +14,7 @@ ghost use Rattle.journal_defs.specs.Sound.{region_state};
 ghost use Rattle.journal_defs.specs.Fit.{IsSoundImage};
 ghost use Rattle.region_store.specs.Region.{Standing, HoldsRegion, IsHeld, IsReplayed};
 ghost use Rattle.site_defs.specs.OutsideBlocks.{IsOutsideAt, AreOutside, HaveOutsideBlocks, gone_back};
-ghost use Rattle.site_regions.specs.Joined.{joined, ArePartsOf, region_at};
+ghost use Rattle.region_store.specs.Joined.{joined, ArePartsOf, region_at};
 ghost use Rattle.entry_index.specs.Signs.{signs_of};
 ghost use Rattle.entry_index.specs.Indexes.{AreSigns, Indexes};
 ghost use Rattle.entry_index.specs.Found.{AreFound, entry_count};
@@ -28,15 +28,13 @@ use super::epoch::EpochAt;
 use super::images::read_images;
 use super::replaying::replay;
 use super::starting::{signs_at, start_of};
-use entry_index::EntryIndex;
+use entry_index::{EntryIndex, PlacedSign};
 use global_dir::Directory;
 use gvn_key::NoMemory;
 use gvn_model::Reigns;
 use instance_file::InstanceRecords;
-use jnl_index::PlacedSign;
-use region_store::{Region, RegionError};
+use region_store::{Region, RegionError, Regions};
 use repl_disk::Disk;
-use site_regions::Regions;
 use std::alloc::Global;
 
 /// A region as it stood at some of the entries.
@@ -72,9 +70,7 @@ fn open_at<D: Disk>(
     ensures outside { (f offset : ℕ) → IsErrOf result (RegionError.NotAFile f offset) → IfSome (D.disk disk.old).content (λ files. (journal : List Placed) → AreTold files number signs.now journal
         → (f ≡ database_file number) × (b : ℕ) × (offset ≡ 4096 * b) × IsOutsideAt (image_state (chosen_at start journal) (block_of (files (database_file number)))) b) }
     ensures reads { Reads (D.disk disk.old) (D.disk disk.new) }
-    ensures later { (D.disk disk.old).faults ≤ (D.disk disk.new).faults }
-    ensures count { (fault : ℕ) → IsErrOf result (RegionError.Failed fault) → fault ≡ (D.disk disk.new).faults }
-    ensures cause { (fault : ℕ) → IsErrOf result (RegionError.Failed fault) → Rose (D.disk disk.old).faults (D.disk disk.new).faults }
+    ensures faults { MayFail (D.disk disk.old).faults (D.disk disk.new).faults (λ fault. IsErrOf result (RegionError.Failed fault)) }
 {
     let images = read_images(alloc, disk, number, &signs[start.after..])?;
     let file = 1 + number as u32;
@@ -105,9 +101,7 @@ fn open_own<D: Disk>(
         → (seq : Sequence) → (f ≡ database_file number) × (b : ℕ) × (offset ≡ 4096 * b)
         × AreOutside (image_state (chosen_at start journal) (block_of (files (database_file number)))) (region_state directory.now.patterns number (take start.number seq)) b) }
     ensures reads { Reads (D.disk disk.old) (D.disk disk.new) }
-    ensures later { (D.disk disk.old).faults ≤ (D.disk disk.new).faults }
-    ensures count { (fault : ℕ) → IsErrOf result (RegionError.Failed fault) → fault ≡ (D.disk disk.new).faults }
-    ensures cause { (fault : ℕ) → IsErrOf result (RegionError.Failed fault) → Rose (D.disk disk.old).faults (D.disk disk.new).faults }
+    ensures faults { MayFail (D.disk disk.old).faults (D.disk disk.new).faults (λ fault. IsErrOf result (RegionError.Failed fault)) }
 {
     let _ = directory.regions();
     let region = open_at(alloc, disk, number, start, signs)?;
@@ -138,9 +132,7 @@ fn open_region<D: Disk>(
     ensures gone_back { IfOk result (λ made. IfSome (D.disk disk.old).content (λ files. (journal : List Placed) → AreTold files number signs.now journal → IsGoneBack instance.now target made.from journal number made.region files)) }
     ensures outside { (f offset : ℕ) → IsErrOf result (RegionError.NotAFile f offset) → IfSome (D.disk disk.old).content (λ files. (journal : List Placed) → AreTold files number signs.now journal → (seq : Sequence) → IsRefused instance.now target seq journal number f offset files) }
     ensures reads { Reads (D.disk disk.old) (D.disk disk.new) }
-    ensures later { (D.disk disk.old).faults ≤ (D.disk disk.new).faults }
-    ensures count { (fault : ℕ) → IsErrOf result (RegionError.Failed fault) → fault ≡ (D.disk disk.new).faults }
-    ensures cause { (fault : ℕ) → IsErrOf result (RegionError.Failed fault) → Rose (D.disk disk.old).faults (D.disk disk.new).faults }
+    ensures faults { MayFail (D.disk disk.old).faults (D.disk disk.new).faults (λ fault. IsErrOf result (RegionError.Failed fault)) }
 {
     let start = start_of(alloc, instance, target, signs)?;
     let region = open_own(alloc, disk, directory, number, start, signs)?;
@@ -180,9 +172,7 @@ fn begin_each<D: Disk>(
     ensures outside { (f offset : ℕ) → IsErrOf result (RegionError.NotAFile f offset) → IfSome (D.disk disk.old).content (λ files. (journal : ℕ → List Placed) → AreSigns files (map (λ s. s.items) signs.now) journal
         → (seq : Sequence) → AreRefused instance.now target seq journal directory.now.regions f offset files) }
     ensures reads { Reads (D.disk disk.old) (D.disk disk.new) }
-    ensures later { (D.disk disk.old).faults ≤ (D.disk disk.new).faults }
-    ensures count_of_faults { (fault : ℕ) → IsErrOf result (RegionError.Failed fault) → fault ≡ (D.disk disk.new).faults }
-    ensures cause { (fault : ℕ) → IsErrOf result (RegionError.Failed fault) → Rose (D.disk disk.old).faults (D.disk disk.new).faults }
+    ensures faults { MayFail (D.disk disk.old).faults (D.disk disk.new).faults (λ fault. IsErrOf result (RegionError.Failed fault)) }
 {
     let mut all = AllBegun {
         regions: Vec::new(alloc),
@@ -222,9 +212,7 @@ pub(crate) fn open_each<D: Disk>(
     ensures outside { (f offset : ℕ) → IsErrOf result (RegionError.NotAFile f offset) → IfSome (D.disk disk.old).content (λ files. (journal : ℕ → List Placed) (seq : Sequence)
         → AreGiven files instance.now (map (λ s. s.items) signs.now) entries.now journal seq → AreRefused instance.now target seq journal directory.now.regions f offset files) }
     ensures reads { Reads (D.disk disk.old) (D.disk disk.new) }
-    ensures later { (D.disk disk.old).faults ≤ (D.disk disk.new).faults }
-    ensures count_of_faults { (fault : ℕ) → IsErrOf result (RegionError.Failed fault) → fault ≡ (D.disk disk.new).faults }
-    ensures cause { (fault : ℕ) → IsErrOf result (RegionError.Failed fault) → Rose (D.disk disk.old).faults (D.disk disk.new).faults }
+    ensures faults { MayFail (D.disk disk.old).faults (D.disk disk.new).faults (λ fault. IsErrOf result (RegionError.Failed fault)) }
 {
     let _ = directory.regions();
     let begun = begin_each(alloc, disk, instance, directory, signs, target)?;
@@ -285,9 +273,7 @@ pub fn open_regions<D: Disk>(
         → IfSome (D.disk disk.old).content (λ files. (u : Records) (seq : Sequence) → AreFound files instance.now (map (λ s. s.items) signs.now) entries.now u seq → HaveOutsideBlocks aim files f offset) }
     ensures unsound { (f offset : ℕ) → IsErrOf result (RegionError.NotAFile f offset) → IfSome (D.disk disk.old).content (λ files. (u : Records) (seq : Sequence) → AreFound files instance.now (map (λ s. s.items) signs.now) entries.now u seq → IsSoundImage files u seq → ⊥) }
     ensures reads { Reads (D.disk disk.old) (D.disk disk.new) }
-    ensures later { (D.disk disk.old).faults ≤ (D.disk disk.new).faults }
-    ensures count_of_faults { (fault : ℕ) → IsErrOf result (RegionError.Failed fault) → fault ≡ (D.disk disk.new).faults }
-    ensures cause { (fault : ℕ) → IsErrOf result (RegionError.Failed fault) → Rose (D.disk disk.old).faults (D.disk disk.new).faults }
+    ensures faults { MayFail (D.disk disk.old).faults (D.disk disk.new).faults (λ fault. IsErrOf result (RegionError.Failed fault)) }
 {
     let _ = directory.regions();
     let regions = open_each(

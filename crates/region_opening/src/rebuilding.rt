@@ -1,16 +1,16 @@
 //! Regions that are made anew from the entries alone.
-ghost use Rattle.std.specs.Prelude.{◌≡◌, ◌<◌, ◌≤◌, ℕ, List, length, IfOk, IfSome, IsErrOf};
+ghost use Rattle.std.specs.Prelude.{◌≡◌, ◌<◌, ℕ, List, length, IfOk, IfSome, IsErrOf};
 ghost use Rattle.std.specs.List.{AllByRecursion};
 ghost use Rattle.std.specs.FinMap as globals;
-ghost use Rattle.disk_defs.specs.Disk.{Reads, Rose};
+ghost use Rattle.disk_defs.specs.Disk.{Reads, MayFail};
 ghost use Rattle.global_defs.specs.Entry.{Sequence, state};
 ghost use Rattle.journal_defs.specs.Numbers.{database_file};
 ghost use Rattle.journal_defs.specs.Directory.{patterns};
 ghost use Rattle.journal_defs.specs.Surviving.{reigns};
 ghost use Rattle.journal_defs.specs.Sequence.{Records};
-ghost use Rattle.jnl_index.specs.declared.placed.PlacedSign.{PlacedSign};
+ghost use Rattle.entry_index.specs.declared.placed.PlacedSign.{PlacedSign};
 ghost use Rattle.region_store.specs.Region.{IsHeld};
-ghost use Rattle.site_regions.specs.Joined.{joined, ArePartsOf, region_at};
+ghost use Rattle.region_store.specs.Joined.{joined, ArePartsOf, region_at};
 ghost use Rattle.entry_index.specs.Found.{AreFound, entry_count};
 
 use super::opening::open_each;
@@ -18,9 +18,8 @@ use entry_index::EntryIndex;
 use global_dir::Directory;
 use gvn_model::Reigns;
 use instance_file::InstanceRecords;
-use region_store::RegionError;
+use region_store::{RegionError, Regions};
 use repl_disk::Disk;
-use site_regions::Regions;
 use std::alloc::Global;
 
 /// Makes the regions of a site anew, by the records of its instance file, the surviving reigns and the index of all entries: each
@@ -53,9 +52,7 @@ pub fn rebuild_regions<D: Disk>(
     ensures held { IfOk result (λ made. IfSome (D.disk disk.old).content (λ files. (r : ℕ) → r < length made.regions → IsHeld (region_at made r) files)) }
     ensures outside { (f offset : ℕ) → IsErrOf result (RegionError.NotAFile f offset) → IfSome (D.disk disk.old).content (λ files. (signs : List (List PlacedSign)) (u : Records) (seq : Sequence) → AreFound files instance.now signs entries.now u seq → ⊥) }
     ensures reads { Reads (D.disk disk.old) (D.disk disk.new) }
-    ensures later { (D.disk disk.old).faults ≤ (D.disk disk.new).faults }
-    ensures count_of_faults { (fault : ℕ) → IsErrOf result (RegionError.Failed fault) → fault ≡ (D.disk disk.new).faults }
-    ensures cause { (fault : ℕ) → IsErrOf result (RegionError.Failed fault) → Rose (D.disk disk.old).faults (D.disk disk.new).faults }
+    ensures faults { MayFail (D.disk disk.old).faults (D.disk disk.new).faults (λ fault. IsErrOf result (RegionError.Failed fault)) }
 {
     let _ = directory.regions();
     // without a record of its journals a region goes back to no epoch

@@ -1,7 +1,7 @@
 //! Updates of entries that are made in their regions.
 ghost use Rattle.std.specs.Prelude.{◌≡◌, ◌≤◌, ◌<◌, ◌∷◌, [], ℕ, length, map, fold, slice_index, IfSome, OnOk, IsErrOf};
 ghost use Rattle.std.specs.List.{AllByRecursion};
-ghost use Rattle.disk_defs.specs.Disk.{Reads, Rose};
+ghost use Rattle.disk_defs.specs.Disk.{Reads, MayFail};
 ghost use Rattle.global_defs.specs.Entry.{Sequence, apply};
 ghost use Rattle.global_defs.specs.Fields.{IsUpdate, IsTransaction};
 ghost use Rattle.journal_defs.specs.Fit.{key_of};
@@ -141,9 +141,7 @@ pub(crate) fn replay<D: Disk>(
     ensures made { OnOk result (AreBecome (IsGivenUpTo (D.disk disk.old).content history.now entries.now directory.now.patterns from.now target) (length regions.old.items) regions.old.items regions.new.items) }
     ensures outside { (f offset : ℕ) → IsErrOf result (RegionError.NotAFile f offset) → IfSome (D.disk disk.old).content (λ files. (seq : Sequence) → Indexes (InFiles files) history.now entries.now seq → AllByRecursion (λ e. IsTransaction e.transaction) seq → target ≤ length seq → ⊥) }
     ensures reads { Reads (D.disk disk.old) (D.disk disk.new) }
-    ensures later { (D.disk disk.old).faults ≤ (D.disk disk.new).faults }
-    ensures count_of_faults { (fault : ℕ) → IsErrOf result (RegionError.Failed fault) → fault ≡ (D.disk disk.new).faults }
-    ensures cause { (fault : ℕ) → IsErrOf result (RegionError.Failed fault) → Rose (D.disk disk.old).faults (D.disk disk.new).faults }
+    ensures faults { MayFail (D.disk disk.old).faults (D.disk disk.new).faults (λ fault. IsErrOf result (RegionError.Failed fault)) }
 {
     let starts = starts_of(alloc, history.as_slice())?;
     for done in least(from, target)..target {

@@ -8,9 +8,9 @@ ghost use Rattle.region_opening.specs.Opening.{IsStart};
 
 use super::epoch::{EpochAt, chosen_epoch};
 use super::forward::first_without;
+use entry_index::PlacedSign;
 use gvn_key::NoMemory;
 use instance_file::InstanceRecords;
-use jnl_index::PlacedSign;
 use std::alloc::Global;
 
 /// The signs of a region's records; none where there is no list for it.

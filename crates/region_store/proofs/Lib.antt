@@ -9,3 +9,8 @@ pub mod Openings
 pub mod Marking
 pub mod Logs
 pub mod Flushes
+pub mod Lists
+pub mod Parts
+pub mod Counted
+pub mod Making
+pub mod Sharing

@@ -1,6 +1,6 @@
 //! Marks of blocks whose images are logged, and blocks written to the database file.
-ghost use Rattle.std.specs.Prelude.{◌≡◌, ◌≤◌, ℕ, length, IfSome, OnOk, OnErr, IsErrOf};
-ghost use Rattle.disk_defs.specs.Disk.{Image, From, OnFile, AtEachMoment, ReadsAfter, IsDurable, Rose};
+ghost use Rattle.std.specs.Prelude.{◌≡◌, ℕ, length, IfSome, OnOk, OnErr, IsErrOf};
+ghost use Rattle.disk_defs.specs.Disk.{Image, From, OnFile, AtEachMoment, ReadsAfter, IsDurable, MayFail};
 ghost use Rattle.disk_defs.specs.Frames.{Only, OthersStay};
 ghost use Rattle.block_pool.specs.Pool.{cleaned, CleanStand, AllStand, ChangesDirty};
 ghost use Rattle.region_store.specs.Region.{marks_in};
@@ -39,9 +39,7 @@ pub(crate) fn write_changed<D: Disk>(
     ensures any_moment { AtEachMoment (D.disk disk.old) (D.disk disk.new) (From (Image (D.disk disk.old)) (OnFile file (ChangesDirty leaves.old.pool))) }
     ensures frame { OthersStay (Only file) (D.disk disk.old) (D.disk disk.new) }
     ensures place { (f offset : ℕ) → IsErrOf result (RegionError.NotAFile f offset) → ⊥ }
-    ensures later { (D.disk disk.old).faults ≤ (D.disk disk.new).faults }
-    ensures count { (fault : ℕ) → IsErrOf result (RegionError.Failed fault) → fault ≡ (D.disk disk.new).faults }
-    ensures cause { (fault : ℕ) → IsErrOf result (RegionError.Failed fault) → Rose (D.disk disk.old).faults (D.disk disk.new).faults }
+    ensures faults { MayFail (D.disk disk.old).faults (D.disk disk.new).faults (λ fault. IsErrOf result (RegionError.Failed fault)) }
 {
     match leaves.write_out(disk, file) {
         Ok(()) => Ok(()),
@@ -62,9 +60,7 @@ pub(crate) fn sync_file<D: Disk>(disk: &mut D, file: u32) -> Result<(), RegionEr
     ensures any_moment { AtEachMoment (D.disk disk.old) (D.disk disk.new) (Image (D.disk disk.old)) }
     ensures frame { OthersStay (Only file) (D.disk disk.old) (D.disk disk.new) }
     ensures place { (f offset : ℕ) → IsErrOf result (RegionError.NotAFile f offset) → ⊥ }
-    ensures later { (D.disk disk.old).faults ≤ (D.disk disk.new).faults }
-    ensures count { (fault : ℕ) → IsErrOf result (RegionError.Failed fault) → fault ≡ (D.disk disk.new).faults }
-    ensures cause { (fault : ℕ) → IsErrOf result (RegionError.Failed fault) → Rose (D.disk disk.old).faults (D.disk disk.new).faults }
+    ensures faults { MayFail (D.disk disk.old).faults (D.disk disk.new).faults (λ fault. IsErrOf result (RegionError.Failed fault)) }
 {
     if disk.room(file, 1, 0).is_err() {
         return Err(RegionError::NoMemory);

@@ -1,6 +1,6 @@
 //! Blocks as they stood at an epoch.
 ghost use Rattle.std.specs.Prelude.{◌≡◌, ◌⊎◌, ◌≤◌, ◌<◌, ◌+◌, ◌*◌, ℕ, [], true, false, length, map, max, None, IfOk, IfSome, IfNone, OnOk, OnErr, IsErrOf};
-ghost use Rattle.disk_defs.specs.Disk.{Reads, Rose};
+ghost use Rattle.disk_defs.specs.Disk.{Reads, MayFail};
 ghost use Rattle.journal_defs.specs.Journal.{IsInForm};
 ghost use Rattle.journal_defs.specs.Epochs.{Chosen, image_state, block_of};
 ghost use Rattle.journal_defs.specs.Leaves.{Leaf, IsBlock};
@@ -85,9 +85,7 @@ fn read_bytes<D: Disk>(
     ensures place { (file offset : ℕ) → IsErrOf result (RegionError.NotAFile file offset) → (file ≡ source.file) × (offset ≡ 4096 * number) }
     ensures short { (file offset : ℕ) → IsErrOf result (RegionError.NotAFile file offset) → IfSome (D.disk disk.old).content (λ files. (e : Chosen) → Undoes undo.now e → IsOutsideAt (image_state e (block_of (files source.file))) number) }
     ensures reads { Reads (D.disk disk.old) (D.disk disk.new) }
-    ensures later { (D.disk disk.old).faults ≤ (D.disk disk.new).faults }
-    ensures count { (fault : ℕ) → IsErrOf result (RegionError.Failed fault) → fault ≡ (D.disk disk.new).faults }
-    ensures cause { (fault : ℕ) → IsErrOf result (RegionError.Failed fault) → Rose (D.disk disk.old).faults (D.disk disk.new).faults }
+    ensures faults { MayFail (D.disk disk.old).faults (D.disk disk.new).faults (λ fault. IsErrOf result (RegionError.Failed fault)) }
 {
     let at = BLOCK * number as u64;
     if is_on_file(undo, source.blocks, number) && source.length < at + BLOCK {
@@ -170,9 +168,7 @@ fn read_one<D: Disk>(
     ensures place { (file offset : ℕ) → IsErrOf result (RegionError.NotAFile file offset) → (file ≡ source.file) × (offset ≡ 4096 * number) }
     ensures outside { (file offset : ℕ) → IsErrOf result (RegionError.NotAFile file offset) → IfSome (D.disk disk.old).content (λ files. (e : Chosen) → Undoes undo.now e → IsOutsideAt (image_state e (block_of (files source.file))) number) }
     ensures reads { Reads (D.disk disk.old) (D.disk disk.new) }
-    ensures later { (D.disk disk.old).faults ≤ (D.disk disk.new).faults }
-    ensures count { (fault : ℕ) → IsErrOf result (RegionError.Failed fault) → fault ≡ (D.disk disk.new).faults }
-    ensures cause { (fault : ℕ) → IsErrOf result (RegionError.Failed fault) → Rose (D.disk disk.old).faults (D.disk disk.new).faults }
+    ensures faults { MayFail (D.disk disk.old).faults (D.disk disk.new).faults (λ fault. IsErrOf result (RegionError.Failed fault)) }
 {
     let mut bytes = [0; 4096];
     read_bytes(undo, disk, source, number, &mut bytes)?;
@@ -191,9 +187,7 @@ fn read_one<D: Disk>(
 fn length_of<D: Disk>(disk: &mut D, file: u32) -> Result<u64, RegionError>
     ensures length { IfOk result (λ n. IfSome (D.disk disk.old).content (λ files. n ≡ length (files file))) }
     ensures reads { Reads (D.disk disk.old) (D.disk disk.new) }
-    ensures later { (D.disk disk.old).faults ≤ (D.disk disk.new).faults }
-    ensures count { (fault : ℕ) → IsErrOf result (RegionError.Failed fault) → fault ≡ (D.disk disk.new).faults }
-    ensures cause { (fault : ℕ) → IsErrOf result (RegionError.Failed fault) → Rose (D.disk disk.old).faults (D.disk disk.new).faults }
+    ensures faults { MayFail (D.disk disk.old).faults (D.disk disk.new).faults (λ fault. IsErrOf result (RegionError.Failed fault)) }
     ensures inside { (f offset : ℕ) → IsErrOf result (RegionError.NotAFile f offset) → ⊥ }
 {
     match disk.len(file) {
@@ -228,9 +222,7 @@ pub(crate) fn read_blocks<D: Disk>(
     ensures place { (f offset : ℕ) → IsErrOf result (RegionError.NotAFile f offset) → f ≡ file }
     ensures outside { (f offset : ℕ) → IsErrOf result (RegionError.NotAFile f offset) → IfSome (D.disk disk.old).content (λ files. (e : Chosen) → Undoes undo.now e → (b : ℕ) × (offset ≡ 4096 * b) × IsOutsideAt (image_state e (block_of (files file))) b) }
     ensures reads { Reads (D.disk disk.old) (D.disk disk.new) }
-    ensures later { (D.disk disk.old).faults ≤ (D.disk disk.new).faults }
-    ensures count { (fault : ℕ) → IsErrOf result (RegionError.Failed fault) → fault ≡ (D.disk disk.new).faults }
-    ensures cause { (fault : ℕ) → IsErrOf result (RegionError.Failed fault) → Rose (D.disk disk.old).faults (D.disk disk.new).faults }
+    ensures faults { MayFail (D.disk disk.old).faults (D.disk disk.new).faults (λ fault. IsErrOf result (RegionError.Failed fault)) }
 {
     let length = length_of(disk, file)?;
     let source = Source {

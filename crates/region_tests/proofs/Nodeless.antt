@@ -7,7 +7,7 @@ use Rattle.global_defs.specs.Entry.{Globals}
 use Rattle.journal_defs.specs.Directory.{Pattern}
 use Rattle.block_laws.proofs.Parts.{begins}
 use Rattle.region_store.specs.Region.{Standing}
-use Rattle.site_regions.specs.Joined.{ArePartsOf, parts_in}
+use Rattle.region_store.specs.Joined.{ArePartsOf, parts_in}
 use Rattle.region_tests.specs.Nodeless.{HasNoNodes}
 
 abbrev none : Globals

@@ -5,7 +5,7 @@ ghost use Rattle.disk_defs.specs.Disk.{Files};
 ghost use Rattle.global_defs.specs.Fields.{IsUpdate};
 ghost use Rattle.gvn_key.specs.Terms.{update_value};
 ghost use Rattle.region_store.specs.Region.{IsHeld, AreLogged};
-ghost use Rattle.site_regions.specs.Joined.{region_at};
+ghost use Rattle.region_store.specs.Joined.{region_at};
 ghost use Rattle.region_tests.specs.Nodeless.{HasNoNodes};
 
 use super::regions::{Images, no_log};
@@ -13,9 +13,8 @@ use global_dir::Directory;
 use gvn_key::terms::Update;
 use gvn_key::{Bytes, Key, NoMemory};
 use gvt_leaf::Node;
-use region_store::{Region, RegionError};
+use region_store::{Region, RegionError, Regions};
 use repl_disk::{Disk, MemDisk};
-use site_regions::Regions;
 use std::alloc::Global;
 use std::process::Abort;
 

@@ -13,8 +13,7 @@ ghost use Rattle.repl_fields.specs.Reading.{ReadsField};
 use super::numbers::read_u8;
 use super::pieces::{read_long, read_short};
 use gvn_key::terms::Update;
-use gvn_key::{Bytes, Key, NoMemory};
-use key_code::{Seen, first_key};
+use gvn_key::{Bytes, Key, NoMemory, Seen, first_key};
 use std::alloc::Global;
 
 /// How many bytes a value may have.

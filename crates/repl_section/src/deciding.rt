@@ -1,6 +1,6 @@
 //! Deciding one job.
 ghost use Rattle.std.specs.Prelude.{◌≡◌, ◌≤◌, ◌<◌, ◌+◌, ◌-◌, ◌^◌, ℕ, Bool, true, length, set, IfOk, IfSome, OnOk, IsErrOf};
-ghost use Rattle.disk_defs.specs.Disk.{Rose};
+ghost use Rattle.disk_defs.specs.Disk.{MayFailUncounted};
 ghost use Rattle.global_defs.specs.Fields.{IsOrigin};
 ghost use Rattle.global_defs.specs.Evaluation.{eval};
 ghost use Rattle.global_defs.specs.Evaluation as evaluation;
@@ -12,7 +12,7 @@ ghost use Rattle.site_store.specs.Site.{IsReady, IsOpen, HasReign, HasRoomFor, c
 ghost use Rattle.repl_section.specs.Replies.{named, replied_value};
 ghost use Rattle.repl_section.specs.Reigns.{stamp_of};
 ghost use Rattle.repl_section.specs.Deciding.{outcome, FitsIn, ComesTo, Appends, StandsAt};
-ghost use Rattle.site_regions.specs.Joined.{joined};
+ghost use Rattle.region_store.specs.Joined.{joined};
 
 use crate::decision::Decision;
 use crate::error::DecideError;
@@ -84,8 +84,7 @@ impl Reign {
         ensures grown { OnOk result (count_of self.old.site ≤ count_of self.new.site) }
         ensures stands { (c : Contents) (h : ℕ) → IsOpen (D.disk disk.old) true c h self.old.site → StandsAt (D.disk disk.new) c h }
         ensures simulated { (D.disk disk.new).simulated ≡ (D.disk disk.old).simulated }
-        ensures later { (D.disk disk.old).faults ≤ (D.disk disk.new).faults }
-        ensures cause { IsErrOf result DecideError.Failed → Rose (D.disk disk.old).faults (D.disk disk.new).faults }
+        ensures faults { MayFailUncounted (D.disk disk.old).faults (D.disk disk.new).faults (IsErrOf result DecideError.Failed) }
     {
         if !all_fit(&updates) {
             return Err(DecideError::NoMemory);
@@ -116,8 +115,7 @@ impl Reign {
         ensures appends { IsErrOf result DecideError.Failed → (told : Bool) (c : Contents) (h : ℕ) → IsOpen (D.disk disk.old) told c h self.old.site → Appends c.sequence (outcome (stamp_of self.old) self.old.serials c.sequence origin.updater (evaluated_value evaluated)) }
         ensures stands { (c : Contents) (h : ℕ) → IsOpen (D.disk disk.old) true c h self.old.site → StandsAt (D.disk disk.new) c h }
         ensures simulated { (D.disk disk.new).simulated ≡ (D.disk disk.old).simulated }
-        ensures later { (D.disk disk.old).faults ≤ (D.disk disk.new).faults }
-        ensures cause { IsErrOf result DecideError.Failed → Rose (D.disk disk.old).faults (D.disk disk.new).faults }
+        ensures faults { MayFailUncounted (D.disk disk.old).faults (D.disk disk.new).faults (IsErrOf result DecideError.Failed) }
     {
         let reply = match evaluated {
             Evaluated::RolledBack(cause) => Reply::RolledBack(cause),
@@ -159,8 +157,7 @@ impl Reign {
         ensures appends { IsErrOf result DecideError.Failed → (told : Bool) (c : Contents) (h : ℕ) → IsOpen (D.disk disk.old) told c h self.old.site → Appends c.sequence (outcome (stamp_of self.old) self.old.serials c.sequence updater (eval (job_value job) (joined self.old.site.globals))) }
         ensures stands { (c : Contents) (h : ℕ) → IsOpen (D.disk disk.old) true c h self.old.site → StandsAt (D.disk disk.new) c h }
         ensures simulated { (D.disk disk.new).simulated ≡ (D.disk disk.old).simulated }
-        ensures later { (D.disk disk.old).faults ≤ (D.disk disk.new).faults }
-        ensures cause { IsErrOf result DecideError.Failed → Rose (D.disk disk.old).faults (D.disk disk.new).faults }
+        ensures faults { MayFailUncounted (D.disk disk.old).faults (D.disk disk.new).faults (IsErrOf result DecideError.Failed) }
     {
         let Some(origin) = self.next_origin(updater) else {
             return Err(DecideError::NoMemory);

@@ -1,6 +1,6 @@
 //! Giving the site entries.
-ghost use Rattle.std.specs.Prelude.{◌≡◌, ◌≤◌, ◌<◌, ◌+◌, ◌^◌, ℕ, Bool, true, IfOk, OnOk, IsErrOf, IsSome};
-ghost use Rattle.disk_defs.specs.Disk.{Files, Image, Rose};
+ghost use Rattle.std.specs.Prelude.{◌≡◌, ◌<◌, ◌+◌, ◌^◌, ℕ, Bool, true, IfOk, OnOk, IsErrOf, IsSome};
+ghost use Rattle.disk_defs.specs.Disk.{Files, Image, MayFailUncounted};
 ghost use Rattle.global_defs.specs.Fields.{IsTransaction};
 ghost use Rattle.gvn_model.specs.Entries.{transaction_value};
 ghost use Rattle.site_defs.specs.Contents.{Contents, Standing};
@@ -10,7 +10,7 @@ ghost use Rattle.site_defs.specs.Behind.{IsFrontLeft, IsSiteWith};
 ghost use Rattle.site_store.specs.Site.{IsReady, IsOpen, HasReign, HasRoomFor, with_entry, count_of};
 ghost use Rattle.repl_section.specs.Reigns.{Reigns};
 ghost use Rattle.repl_section.specs.Deciding.{StandsAt};
-ghost use Rattle.site_regions.specs.Joined.{joined};
+ghost use Rattle.region_store.specs.Joined.{joined};
 
 use crate::error::DecideError;
 use crate::reign::Reign;
@@ -41,8 +41,7 @@ impl Reign {
         ensures serials { self.new.serials ≡ self.old.serials }
         ensures stands { (c : Contents) (h : ℕ) → IsOpen (D.disk disk.old) true c h self.old.site → StandsAt (D.disk disk.new) c h }
         ensures simulated { (D.disk disk.new).simulated ≡ (D.disk disk.old).simulated }
-        ensures later { (D.disk disk.old).faults ≤ (D.disk disk.new).faults }
-        ensures cause { IsErrOf result DecideError.Failed → Rose (D.disk disk.old).faults (D.disk disk.new).faults }
+        ensures faults { MayFailUncounted (D.disk disk.old).faults (D.disk disk.new).faults (IsErrOf result DecideError.Failed) }
     {
         match self.site.commit(alloc, disk, &t) {
             Ok(number) => Ok(number),
@@ -71,8 +70,7 @@ impl Reign {
         ensures images { (c : Contents) (h : ℕ) → IsOpen (D.disk disk.old) true c h self.old.site → (f : Files) → Image (D.disk disk.new) f → (o : Contents) × IsFrontOf c.sequence h c o × IsSite f o }
         ensures left { (c : Contents) (h : ℕ) → IsOpen (D.disk disk.old) true c h self.old.site → (f : Files) → Image (D.disk disk.new) f → (o : Standing) × IsFrontLeft c.sequence h c o × IsSiteWith f o }
         ensures simulated { (D.disk disk.new).simulated ≡ (D.disk disk.old).simulated }
-        ensures later { (D.disk disk.old).faults ≤ (D.disk disk.new).faults }
-        ensures cause { IsErrOf result DecideError.Failed → Rose (D.disk disk.old).faults (D.disk disk.new).faults }
+        ensures faults { MayFailUncounted (D.disk disk.old).faults (D.disk disk.new).faults (IsErrOf result DecideError.Failed) }
     {
         match self.site.harden(disk) {
             Ok(_) => Ok(()),

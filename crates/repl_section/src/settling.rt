@@ -1,6 +1,6 @@
 //! Deciding one job, with all that its reply waits for.
 ghost use Rattle.std.specs.Prelude.{◌≡◌, ◌≤◌, ℕ, Bool, true, IfSome, IsSome, OnOk, OnErr, IsErrOf};
-ghost use Rattle.disk_defs.specs.Disk.{Files, Image, Rose};
+ghost use Rattle.disk_defs.specs.Disk.{Files, Image, MayFailUncounted};
 ghost use Rattle.global_defs.specs.Evaluation.{eval};
 ghost use Rattle.gvn_model.specs.Jobs.{job_value};
 ghost use Rattle.site_defs.specs.Contents.{Contents, Standing};
@@ -11,7 +11,7 @@ ghost use Rattle.site_store.specs.Site.{IsReady, IsOpen, HasReign, count_of};
 ghost use Rattle.repl_section.specs.Replies.{named};
 ghost use Rattle.repl_section.specs.Reigns.{Reigns, stamp_of};
 ghost use Rattle.repl_section.specs.Deciding.{outcome, hardened_for, HasCome, Appends, MayHave, LeavesPick};
-ghost use Rattle.site_regions.specs.Joined.{joined};
+ghost use Rattle.region_store.specs.Joined.{joined};
 
 use crate::decision::Decision;
 use crate::error::DecideError;
@@ -38,8 +38,7 @@ impl Reign {
         ensures images { IsSome (named decision.now.reply) → (c : Contents) (h : ℕ) → IsOpen (D.disk disk.old) true c h self.old.site → (f : Files) → Image (D.disk disk.new) f → (o : Contents) × IsFrontOf c.sequence h c o × IsSite f o }
         ensures left { IsSome (named decision.now.reply) → (c : Contents) (h : ℕ) → IsOpen (D.disk disk.old) true c h self.old.site → (f : Files) → Image (D.disk disk.new) f → (o : Standing) × IsFrontLeft c.sequence h c o × IsSiteWith f o }
         ensures simulated { (D.disk disk.new).simulated ≡ (D.disk disk.old).simulated }
-        ensures later { (D.disk disk.old).faults ≤ (D.disk disk.new).faults }
-        ensures cause { IsErrOf result DecideError.Failed → Rose (D.disk disk.old).faults (D.disk disk.new).faults }
+        ensures faults { MayFailUncounted (D.disk disk.old).faults (D.disk disk.new).faults (IsErrOf result DecideError.Failed) }
     {
         match decision.entry() {
             Some(_) => self.harden(disk),
@@ -71,8 +70,7 @@ impl Reign {
         ensures leaves { (c : Contents) → Reigns (D.disk disk.old) true c self.old → LeavesPick (D.disk disk.new) c (outcome (stamp_of self.old) self.old.serials c.sequence updater (eval (job_value job) (joined self.old.site.globals))).sequence }
         ensures untold { IsErrOf result DecideError.Failed → sink.new ≡ sink.old }
         ensures simulated { (D.disk disk.new).simulated ≡ (D.disk disk.old).simulated }
-        ensures later { (D.disk disk.old).faults ≤ (D.disk disk.new).faults }
-        ensures cause { IsErrOf result DecideError.Failed → Rose (D.disk disk.old).faults (D.disk disk.new).faults }
+        ensures faults { MayFailUncounted (D.disk disk.old).faults (D.disk disk.new).faults (IsErrOf result DecideError.Failed) }
     {
         let decision = self.decide(alloc, disk, updater, job)?;
         self.harden_for(disk, &decision)?;

@@ -2,10 +2,10 @@
 use Rattle.std.proofs.Common.{◌≡◌, ℕ, zero, suc, ◌+◌, ◌-◌, ◌*◌, ◌^◌, ◌<◌, ◌≤◌, List, [], ◌∷◌, length, Bool, true, false, nat_eq, refl, sym, ap, ◌∙◌, subst, arith, length-append, inl, inr}
 use Rattle.std.specs.Prelude.{◌⊎◌, ◌==◌, if◌then◌else◌}
 use Rattle.std.proofs.lemmas.Bool.{cases_eq, ne_eqb, eq-eqb}
-use Rattle.key_prefix.proofs.Taking.{code_length}
-use Rattle.key_prefix.specs.Codes.{IsCode}
-use Rattle.key_prefix.specs.Rests.{IsAt}
-use Rattle.key_prefix.specs.declared.prefix.KeyPrefix.{KeyPrefix}
+use Rattle.gvn_key.proofs.Taking.{code_length}
+use Rattle.gvn_key.specs.Codes.{IsCode}
+use Rattle.gvn_key.specs.Rests.{IsAt}
+use Rattle.gvn_key.specs.declared.prefix.KeyPrefix.{KeyPrefix}
 use Rattle.repl_wire.specs.declared.field.Kind.{Kind}
 use Rattle.repl_wire.specs.declared.field.Kind.TheVariants.{Hello, Resume, RollbackFirst, History, Entry, Bye}
 use Rattle.repl_wire.specs.declared.field.ByteField.TheVariants as byte

@@ -12,7 +12,7 @@ use Rattle.global_defs.specs.Valid.{is_key}
 use Rattle.global_defs.specs.Fields.{short, long, spelled_update, IsUpdate, IsSiteName, IsReign}
 use Rattle.wire_defs.specs.Frames as defs
 use Rattle.wire_defs.specs.Frames.{Frame, spelled_reign, entry_bytes, frame_body, frame_type, spelled_frame, IsFrame, HasFields}
-use Rattle.key_prefix.specs.Codes.{IsCode}
+use Rattle.gvn_key.specs.Codes.{IsCode}
 use Rattle.repl_wire.specs.declared.field.Kind.{Kind}
 use Rattle.repl_wire.specs.declared.field.Kind.TheVariants.{Hello, Resume, RollbackFirst, History, Entry, Bye}
 use Rattle.repl_wire.specs.Kinds.{type_of}

@@ -2,7 +2,7 @@
 use Rattle.std.proofs.Common.{◌≡◌, ℕ, zero, suc, ◌+◌, ◌-◌, ◌*◌, ◌^◌, ◌≤◌, List, [], ◌∷◌, length, Bool, true, false, nat_eq, ap, ◌∙◌, arith, length-append, inl, inr}
 use Rattle.std.specs.Prelude.{◌⊎◌}
 use Rattle.repl_wire.specs.Layout.{Rest, Numbered, Within, Named, Skipped, Starting, Cycling, Rooted, Reigned, Valued, BehindKey, Keyed, Tagged, Updated, ReignCount, Lengthed}
-use Rattle.key_prefix.proofs.Taking.{code_length}
+use Rattle.gvn_key.proofs.Taking.{code_length}
 
 -- bytes of K have from low to high bytes
 abbrev pub Bounds : Rest → ℕ → ℕ → Type 0

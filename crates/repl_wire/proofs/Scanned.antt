@@ -1,8 +1,8 @@
 -- What scans behind one more byte await.
 use Rattle.std.proofs.Common.{◌≡◌, ℕ, suc, ◌+◌, ◌*◌, ◌<◌, ◌≤◌, List, [], ◌∷◌, ◌++◌, length, Bool, refl, sym, ap, ◌∙◌, subst, arith, length-append, append_assoc, append-nil}
-use Rattle.key_prefix.specs.Codes.{IsCode, Begins}
-use Rattle.key_prefix.specs.Rests.{IsAt}
-use Rattle.key_prefix.specs.declared.prefix.KeyPrefix.{KeyPrefix}
+use Rattle.gvn_key.specs.Codes.{IsCode, Begins}
+use Rattle.gvn_key.specs.Rests.{IsAt}
+use Rattle.gvn_key.specs.declared.prefix.KeyPrefix.{KeyPrefix}
 use Rattle.repl_wire.specs.declared.field.NumberField.{NumberField}
 use Rattle.repl_wire.specs.declared.field.NumberField.TheVariants as number
 use Rattle.repl_wire.specs.declared.field.Part.TheVariants.{Number, Key}

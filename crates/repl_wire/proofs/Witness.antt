@@ -17,7 +17,7 @@ use Rattle.repl_wire.specs.Kinds.{least_body, most_body}
 use Rattle.repl_wire.specs.Layout.{Rest, Ended, Sized, One, Numbered, Within, Named, Skipped, Starting, Cycling, Rooted, Reigned, Valued, BehindKey, Keyed, Tagged, Updated, UpdateCount, Updater, ReignCount, Lengthed, Sited, Versioned, Alone, Body, Typed}
 use Rattle.repl_wire.specs.Scans.{Accepts, Fits, BehindByte, BehindNumber, ByteFits, NumberFits, KeyFits, HoldsReigns, HoldsUpdates, HoldsSome}
 use Rattle.repl_wire.proofs.Digits.{unit_pos}
-use Rattle.key_prefix.proofs.Taking.{each_length}
+use Rattle.gvn_key.proofs.Taking.{each_length}
 
 -- bytes of K, so many
 pub record Some (K : Rest) (len : ℕ) : Type 0 where

@@ -1,7 +1,7 @@
 -- What completes a frame of which a front has come.
 use Rattle.std.specs.Prelude.{◌≡◌, ℕ, ◌+◌, ◌*◌, ◌-◌, ◌≤◌, Bool, true, false, List, length, Option, Some, None, ◌⊎◌}
-use Rattle.key_prefix.specs.Rests.{IsAt, Completes}
-use Rattle.key_prefix.specs.declared.prefix.KeyPrefix.{KeyPrefix}
+use Rattle.gvn_key.specs.Rests.{IsAt, Completes}
+use Rattle.gvn_key.specs.declared.prefix.KeyPrefix.{KeyPrefix}
 use Rattle.repl_wire.specs.declared.field.ByteField.{ByteField}
 use Rattle.repl_wire.specs.declared.field.ByteField.TheVariants as byte
 use Rattle.repl_wire.specs.declared.field.NumberField.{NumberField}

@@ -10,7 +10,7 @@ use super::items::{
     cycle_begun, ended, holds_reigns, holds_some, holds_updates, reign_count_begun, reigns_begun,
     update_count_begun, updates_begun,
 };
-use key_prefix::KeyPrefix;
+use gvn_key::KeyPrefix;
 
 /// The last number of 40 bits.
 const LAST: u64 = 0xff_ffff_ffff;

@@ -3,7 +3,7 @@ ghost use Rattle.std.specs.Prelude.{◌≡◌, MatchOption};
 ghost use Rattle.repl_wire.specs.Kinds.{type_of};
 
 use super::front::Front;
-use key_prefix::KeyPrefix;
+use gvn_key::KeyPrefix;
 
 /// The types of frames.
 #[derive(Clone, Copy, Debug)]

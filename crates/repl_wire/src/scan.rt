@@ -8,7 +8,7 @@ use super::bodies::{byte_read, name_read, number_read};
 use super::field::{ByteField, NumberField, Part, Scan};
 use super::front::Front;
 use super::items::{updates_begun, value_begun};
-use key_prefix::KeyPrefix;
+use gvn_key::KeyPrefix;
 
 /// Behind these bytes of a number, perhaps all of them.
 fn number_behind(field: NumberField, front: Front, left: u32, items: u32) -> Scan

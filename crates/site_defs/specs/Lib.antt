@@ -8,7 +8,6 @@ pub mod Forward
 pub mod Stands
 pub mod Behind
 pub mod Texts
-pub mod OutsideGates
 pub mod OutsideInstance
 pub mod OutsideJournal
 pub mod Outside

@@ -6,7 +6,7 @@ use Rattle.global_defs.specs.Entry.{Reign}
 use Rattle.journal_defs.specs.Instance.{InstanceRecord, Reigned, IsInstanceBody, BeginsWithCreate, CutsRise}
 use Rattle.journal_defs.specs.Surviving.{spares_start, reigns}
 use Rattle.journal_defs.specs.Stands.{StartsRise}
-use Rattle.site_defs.specs.OutsideGates.{IsOutside}
+use Rattle.disk_defs.specs.OutsideGates.{IsOutside}
 
 -- CREATE is the first record and no other one is, and the generations of CUT records rise
 pub record AreOrdered (rs : List InstanceRecord) : Type 0 where

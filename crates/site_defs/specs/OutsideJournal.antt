@@ -8,7 +8,7 @@ use Rattle.journal_defs.specs.Journal.{JournalRecord, Start, Pini, IsJournalBody
 use Rattle.journal_defs.specs.FileGrowth.{MayFollow}
 use Rattle.journal_defs.specs.Sequence.{Placed}
 use Rattle.journal_defs.specs.Stands.{IsJournal}
-use Rattle.site_defs.specs.OutsideGates.{IsOutside}
+use Rattle.disk_defs.specs.OutsideGates.{IsOutside}
 
 -- The body at this place belongs to no record, or to one that can't follow those before it in a journal of this region and generation.
 pub record HasWrongRecord (region generation : ℕ) (file : List ℕ) (offset : ℕ) : Type 0 where

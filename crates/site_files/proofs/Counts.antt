@@ -1,5 +1,5 @@
 -- What an index of signs leads to.
-use Rattle.std.proofs.Common.{◌≡◌, inl, inr, ℕ, ◌==◌, true, List, [], ◌∷◌, length, Option, None, refl, sym, ◌∙◌, ap, subst, arith}
+use Rattle.std.proofs.Common.{◌≡◌, inl, inr, ℕ, ◌*◌, ◌==◌, true, List, [], ◌∷◌, length, get_or, Option, None, refl, sym, ◌∙◌, ap, subst, arith}
 use Rattle.std.proofs.Math.Path.{fun_ext}
 use Rattle.std.proofs.lemmas.Bool.{cases_eq}
 use Rattle.std.proofs.lemmas.Bool.Decides.{nat_tests}
@@ -7,15 +7,16 @@ use Rattle.disk_defs.specs.Disk.{Files}
 use Rattle.global_defs.specs.Entry.{Sequence}
 use Rattle.global_defs.specs.Prefix.{stamp_at}
 use Rattle.journal_defs.specs.Journal.{Part}
-use Rattle.journal_defs.specs.Instance.{InstanceRecord}
+use Rattle.journal_defs.specs.Numbers.{INSTANCE}
+use Rattle.journal_defs.specs.Instance.{InstanceRecord, generation, regions}
 use Rattle.journal_defs.specs.Surviving.{reigns}
-use Rattle.journal_defs.specs.Sequence.{Records, entry_with, IsSequence}
-use Rattle.journal_defs.specs.Stands.{AreRecords}
+use Rattle.journal_defs.specs.Sequence.{Placed, Records, entry_with}
+use Rattle.journal_defs.specs.Stands.{IsInstance, IsJournal}
 use Rattle.journal_laws.proofs.Runs.{entry_none}
-use Rattle.jnl_index.specs.declared.placed.PlacedSign.{PlacedSign}
+use Rattle.entry_index.specs.declared.placed.PlacedSign.{PlacedSign}
 use Rattle.entry_index.specs.declared.index.EntryIndex.{EntryIndex}
-use Rattle.entry_index.specs.Indexes.{AreSigns, Indexes}
-use Rattle.entry_index.specs.Found.{AreFound, entry_count}
+use Rattle.entry_index.specs.Indexes.{Indexes}
+use Rattle.entry_index.specs.Found.{AreFound, HaveFound, entry_count}
 use Rattle.entry_index.specs.Parts.{InFiles}
 use Rattle.entry_index.proofs.AmongLaws.{counted as rows_counted}
 
@@ -36,13 +37,21 @@ counted files rs index seq is = elim (cases_eq index.regions 0) [
   | inr some ↦ rows_counted index (length seq) (omega (arith, some)) is.rows
 ]
 
--- what was found, together
-pub is_found : (files : Files) (rs : List InstanceRecord) (signs : List (List PlacedSign)) (index : EntryIndex) (u : Records) (seq : Sequence) → u.instance ≡ rs → AreRecords files u → AreSigns files signs u.journal
-    → IsSequence (record { instance = rs; journal = u.journal }) seq → Indexes (InFiles files) (reigns rs) index seq → AreFound files rs signs index u seq
-is_found files rs signs index u seq same held are sequence indexed = record {
-  instance_is = same;
-  held = held;
-  are_signs = are;
-  sequence = subst (λ (is : List InstanceRecord). IsSequence (record { instance = is; journal = u.journal }) seq) (sym same) sequence;
-  indexed = indexed;
+-- what was found in the journals, with the records that files hold
+pub are_found : (files : Files) (rs : List InstanceRecord) (n g : ℕ) (signs : List (List PlacedSign)) (began : List ℕ) (index : EntryIndex) (journal : ℕ → List Placed) → n ≡ length (regions rs) → g ≡ generation rs
+    → IsInstance (files INSTANCE) rs → (found : HaveFound files rs n g signs began index journal) → AreFound files rs signs index (record { instance = rs; journal = journal }) found.seq
+are_found files rs n g signs began index journal many newest is found = record {
+  instance_is = refl;
+  held = record {
+    instance = is;
+    journals = λ r low. (get_or began r 0, subst (λ (k : ℕ). IsJournal files r k (get_or began r 0) (journal r)) newest (found.journals r (omega (arith, low, many))));
+    no_more = λ r high. found.no_more r (omega (arith, high, many));
+  };
+  are_kept = found.kept;
+  sequence = found.sequence;
+  indexed = found.indexed;
 }
+
+-- and its index has whole rows
+pub whole_rows : (index : EntryIndex) (n m : ℕ) → n ≡ m → (index.regions ≡ n) × (k : ℕ) × (length index.places.items ≡ n * k) → (index.regions ≡ m) × (k : ℕ) × (length index.places.items ≡ index.regions * k)
+whole_rows index n m same (is, k, rows) = (is ∙ same, k, rows ∙ ap (λ (r : ℕ). r * k) (sym is))

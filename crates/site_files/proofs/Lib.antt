@@ -13,5 +13,6 @@ pub mod WhatIsRead
 pub mod Kept
 pub mod PastRead
 pub mod Counts
+pub mod InTurn
 pub mod RecordsRead
 pub mod Places

@@ -2,6 +2,7 @@
 use Rattle.std.proofs.Common.{◌≡◌, inl, inr, ℕ, zero, suc, ◌+◌, ◌≤◌, ◌<◌, Bool, true, false, cond, List, [], ◌∷◌, ◌++◌, length, map, take, get_or, Option, None, IfSome, Err, IsErrOf, refl, sym, ◌∙◌, ap, subst, arith}
 use Rattle.std.proofs.Math.Path.{fun_ext}
 use Rattle.std.proofs.lemmas.Bool.{cases_Bool, cases_lt}
+use Rattle.std.proofs.lemmas.Bool.Decides.{nat_tests}
 use Rattle.std.proofs.lemmas.List.{length-map, get_or_past, get_or_append_left, get_or_push, map-append, take_all}
 use Rattle.std.proofs.lemmas.List.Elements.{filter-append}
 use Rattle.std.specs.List.{AllZip, AllByRecursion, flat_map, enumerate_from, cons_option}
@@ -17,10 +18,11 @@ use Rattle.jnl_file.specs.declared.error.JournalError.{JournalError}
 use Rattle.jnl_file.specs.declared.error.JournalError.TheVariants as journals
 use Rattle.jnl_record.specs.declared.placed.PlacedRecord.{PlacedRecord}
 use Rattle.jnl_record.specs.Values.{placed_value}
-use Rattle.jnl_index.specs.declared.placed.PlacedSign.{PlacedSign}
-use Rattle.jnl_index.specs.Places.{StandsAt, IsSignOf}
-use Rattle.jnl_index.specs.Signs.{sign_of}
+use Rattle.entry_index.specs.declared.placed.PlacedSign.{PlacedSign}
+use Rattle.entry_index.specs.Places.{StandsAt, IsSignOf}
+use Rattle.entry_index.specs.RecordSigns.{sign_of}
 use Rattle.entry_index.specs.Indexes.{AreSigns}
+use Rattle.entry_index.specs.Thinned.{IsThinned, IsSettled, part_generation}
 use Rattle.mupip_recover.specs.Site.{journal_of}
 use Rattle.site_files.specs.Errors.{placed_error}
 use Rattle.site_files.specs.declared.error.FilesError.{FilesError}
@@ -53,6 +55,27 @@ pub broken_past : (rs : List InstanceRecord) (n : ℕ) (journal past : ℕ → L
 broken_past rs n journal past are =
     ap (λ (f : ℕ × NamedMode → List BrokenPart). flat_map f (enumerate_from 0 (regions rs)))
     (fun_ext (λ r. ap (λ (ps : List Part). map (λ (p : Part). let made : BrokenPart = record { region = r.1.name; part = p } in made) ps) (ap (parts_past rs n) (are r.0) ∙ only_past rs n (journal r.0))))
+
+-- what is dropped of records is no part past the length
+settled_low : (n : ℕ) (x : JournalRecord) → IsSettled n x → is_past n x ≡ false
+settled_low n (journal.Pini s) settled = absurd settled
+settled_low n (journal.Epoch m) settled = absurd settled
+settled_low n (journal.Pblk b) settled = absurd settled
+settled_low n (journal.Tcom p) settled = grind (arith, nat_tests)
+
+past_kept : (n : ℕ) (behind : Option ℕ) (js kept : List Placed) → IsThinned n behind js kept → all_past n kept ≡ all_past n js
+past_kept n behind [] kept thin = ap (all_past n) thin
+past_kept n behind (p ∷ ps) kept (inl stays) =
+    ap (all_past n) stays.1 ∙ elim (cases_Bool (is_past n p.what)) [
+      | inl holds ↦ rw holds (ap (λ (l : List Placed). p ∷ l) (past_kept n (part_generation p.generation p.what) ps stays.0 stays.2))
+      | inr fails ↦ rw fails (past_kept n (part_generation p.generation p.what) ps stays.0 stays.2)
+    ]
+past_kept n behind (p ∷ ps) kept (inr goes) = rw (settled_low n p.what goes.1) (past_kept n behind ps kept goes.2)
+
+-- so what is kept of them is enough for the broken list
+pub broken_kept : (rs : List InstanceRecord) (n : ℕ) (journal kept : ℕ → List Placed) → ((r : ℕ) → IsThinned n None (journal r) (kept r)) → broken (record { instance = rs; journal = kept }) n ≡ broken (record { instance = rs; journal = journal }) n
+broken_kept rs n journal kept thin =
+    sym (broken_past rs n kept (λ r. all_past n (kept r)) (λ r. refl)) ∙ broken_past rs n journal (λ r. all_past n (kept r)) (λ r. past_kept n None (journal r) (kept r) (thin r))
 
 -- the record whose sign stands at a place
 pub record IsAt (files : Files) (region : ℕ) (s : PlacedSign) (journal : List Placed) (i : ℕ) : Type 0 where

@@ -1,19 +1,22 @@
 -- Records that were read, whatever their generation.
-use Rattle.std.proofs.Common.{◌≡◌, inl, inr, ℕ, ◌≤◌, ◌<◌, List, [], ◌∷◌, length, Option, None, IfSome, refl, sym, ◌∙◌, ap, subst, arith}
+use Rattle.std.proofs.Common.{◌≡◌, inl, inr, ℕ, ◌≤◌, ◌<◌, List, [], ◌∷◌, length, Option, None, IfSome, sym, ◌∙◌, ap, subst, arith}
 use Rattle.std.specs.List.{AllByRecursion}
 use Rattle.std.proofs.lemmas.Bool.{cases_lt}
 use Rattle.disk_defs.specs.Disk.{Files}
 use Rattle.disk_defs.proofs.Told.{weaker_told, both_weak}
+use Rattle.global_defs.specs.Entry.{Sequence}
 use Rattle.journal_defs.specs.Numbers.{INSTANCE}
 use Rattle.journal_defs.specs.Instance.{InstanceRecord, Create, Reigned, Cut, Map, Mode, IsInForm, generation, regions}
 use Rattle.journal_defs.specs.Sequence.{Placed, Records}
 use Rattle.journal_defs.specs.Stands.{IsInstance, IsJournal, AreRecords}
-use Rattle.jnl_index.specs.declared.placed.PlacedSign.{PlacedSign}
-use Rattle.entry_index.specs.Indexes.{AreSigns}
+use Rattle.entry_index.specs.declared.placed.PlacedSign.{PlacedSign}
+use Rattle.entry_index.specs.declared.index.EntryIndex.{EntryIndex}
+use Rattle.entry_index.specs.Found.{AreFound, HaveFound}
 use Rattle.site_files.specs.Loading.{IsDirectory}
-use Rattle.site_files.specs.Reading.{HaveSigns, HoldNoSite}
+use Rattle.site_files.specs.Reading.{HoldNoSite}
 use Rattle.site_defs.specs.Outside.{HaveJournals}
 use Rattle.site_files.proofs.WhatIsRead.{instance_one}
+use Rattle.site_files.proofs.Counts.{are_found}
 
 pub generation_low : (rs : List InstanceRecord) → AllByRecursion IsInForm rs → generation rs ≤ 65535
 generation_low [] form = omega arith
@@ -52,18 +55,9 @@ module _ (o : Option Files) (rs : List InstanceRecord) (reads : IfSome o (λ fil
       no have.0 s.journal have.1)
 
 -- the records that were found, together
-pub are_held : (o : Option Files) (rs : List InstanceRecord) (last : ℕ → ℕ) (signs : List (List PlacedSign)) (n g : ℕ) → n ≡ length (regions rs) → g ≡ generation rs → length signs ≡ n
-    → IfSome o (λ files. IsInstance (files INSTANCE) rs) → IfSome o (HaveSigns n g last signs)
-    → IfSome o (λ files. (u : Records) × (u.instance ≡ rs) × AreRecords files u × AreSigns files signs u.journal)
-are_held o rs last signs n g many newest all is have =
-    both_weak o (λ files. IsInstance (files INSTANCE) rs) (HaveSigns n g last signs) (λ files. (u : Records) × (u.instance ≡ rs) × AreRecords files u × AreSigns files signs u.journal) is have
-    (λ files here there. (
-      record { instance = rs; journal = there.journal },
-      refl,
-      record {
-        instance = here;
-        journals = λ r low. (last r, subst (λ (k : ℕ). IsJournal files r k (last r) (there.journal r)) newest (there.have r (omega (arith, low, many))));
-        no_more = λ r high. there.are.no_more r (omega (arith, high, many, all));
-      },
-      there.are,
-    ))
+pub are_held : (o : Option Files) (rs : List InstanceRecord) (began : List ℕ) (signs : List (List PlacedSign)) (index : EntryIndex) (n g : ℕ) → n ≡ length (regions rs) → g ≡ generation rs
+    → IfSome o (λ files. IsInstance (files INSTANCE) rs) → IfSome o (λ files. (journal : ℕ → List Placed) × HaveFound files rs n g signs began index journal)
+    → IfSome o (λ files. (u : Records) × (seq : Sequence) × AreFound files rs signs index u seq)
+are_held o rs began signs index n g many newest is have =
+    both_weak o (λ files. IsInstance (files INSTANCE) rs) (λ files. (journal : ℕ → List Placed) × HaveFound files rs n g signs began index journal) (λ files. (u : Records) × (seq : Sequence) × AreFound files rs signs index u seq) is have
+    (λ files here there. (record { instance = rs; journal = there.0 }, there.1.seq, are_found files rs n g signs began index there.0 many newest here there.1))

@@ -16,9 +16,9 @@ use Rattle.journal_laws.proofs.ImageSteps.{all_both}
 use Rattle.jnl_file.specs.Generations.{AreDurable}
 use Rattle.jnl_file.proofs.Newer.{all_told}
 use Rattle.site_defs.specs.OutsideJournal.{IsOutsideGenerations}
-use Rattle.jnl_index.specs.declared.placed.PlacedSign.{PlacedSign}
-use Rattle.jnl_index.specs.Order.{AreInOrder}
-use Rattle.jnl_index.specs.Places.{AreSignsOf}
+use Rattle.entry_index.specs.declared.placed.PlacedSign.{PlacedSign}
+use Rattle.entry_index.specs.Order.{AreInOrder}
+use Rattle.entry_index.specs.Places.{AreSignsOf}
 use Rattle.entry_index.specs.Among.{AreAllInOrder}
 use Rattle.entry_index.specs.Indexes.{AreSigns}
 use Rattle.site_files.specs.Loading.{last_of}

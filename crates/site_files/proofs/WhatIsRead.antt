@@ -4,22 +4,26 @@ use Rattle.std.specs.List.{AllByRecursion}
 use Rattle.disk_defs.specs.Disk.{Files, View, Image, IsLawful, IsDurable, AtEachMoment}
 use Rattle.disk_defs.specs.Gates.{records}
 use Rattle.disk_defs.proofs.Told.{weaker_told, both_weak}
+use Rattle.global_defs.specs.Entry.{Sequence}
 use Rattle.global_dir.specs.Directory.{Mapping}
 use Rattle.instance_file.specs.Order.{AreInOrder}
 use Rattle.journal_defs.specs.Numbers.{INSTANCE, journal_file}
 use Rattle.journal_defs.specs.Instance.{InstanceRecord, IsInstanceBody, IsInForm, generation, regions}
 use Rattle.journal_defs.specs.Directory.{Pattern, patterns}
+use Rattle.journal_defs.specs.Surviving.{reigns}
 use Rattle.journal_defs.specs.Sequence.{Placed}
 use Rattle.journal_defs.specs.Stands.{IsInstance, IsJournal}
 use Rattle.journal_laws.proofs.Readings.{holds_one, instance_body}
 use Rattle.jnl_file.specs.Generations.{AreDurable}
-use Rattle.jnl_index.specs.declared.placed.PlacedSign.{PlacedSign}
-use Rattle.entry_index.specs.Among.{AreAllInOrder}
-use Rattle.entry_index.specs.Indexes.{AreSigns}
-use Rattle.site_files.specs.Loading.{MayBeOpened, AreRead, WasRead, IsDirectory}
-use Rattle.site_files.specs.Reading.{HaveSigns, AreAllDurable, AreUnbegunDurable}
+use Rattle.entry_index.specs.declared.placed.PlacedSign.{PlacedSign}
+use Rattle.entry_index.specs.declared.index.EntryIndex.{EntryIndex}
+use Rattle.entry_index.specs.Among.{IsIndexOf}
+use Rattle.entry_index.specs.Found.{AreFound, HaveFound}
+use Rattle.site_files.specs.Loading.{MayBeOpened, AreRead, WasRead, IsDirectory, last_of}
+use Rattle.site_files.specs.Reading.{AreAllDurable, AreUnbegunDurable}
 use Rattle.site_defs.specs.Outside.{HaveJournals, AreUnbegun}
 use Rattle.site_files.proofs.RegionsRead.{durable_kept}
+use Rattle.site_files.proofs.Counts.{are_found}
 
 -- a file has one list of records
 pub instance_one : (file : List ℕ) (rs qs : List InstanceRecord) → IsInstance file rs → IsInstance file qs → rs ≡ qs
@@ -99,18 +103,19 @@ may_be_opened rs d last g order form directory fits newest low began = record {
 }
 
 -- what the steps of reading found, together
-pub was_read : (o : Option Files) (v w x : View) (rs : List InstanceRecord) (last : ℕ → ℕ) (signs : List (List PlacedSign)) (n g next : ℕ) → n ≡ length (regions rs) → g ≡ generation rs → next ≡ suc (generation rs) → length signs ≡ n
+pub was_read : (o : Option Files) (v w x : View) (rs : List InstanceRecord) (began : List ℕ) (signs : List (List PlacedSign)) (index : EntryIndex) (n g next : ℕ) → n ≡ length (regions rs) → g ≡ generation rs → next ≡ suc (generation rs)
     → IsLawful w → IsLawful x → AtEachMoment v w (Image v) → AtEachMoment w x (Image w) → IfSome o (λ files. IsInstance (files INSTANCE) rs) → IfSome o (λ files. IsDurable v INSTANCE (files INSTANCE))
-    → IfSome o (HaveSigns n g last signs) → IfSome o (AreAllDurable w n g) → IfSome o (AreUnbegun n next) → IfSome o (AreUnbegunDurable x n next)
-    → IfSome o (λ files. (journal : ℕ → List Placed) × WasRead x rs last journal files × AreSigns files signs journal × AreAllInOrder signs journal)
-was_read None v w x rs last signs n g next many newest drawn all lawful_w lawful_x first second is durable have kept unbegun kept_next = tt
-was_read (Some files) v w x rs last signs n g next many newest drawn all lawful_w lawful_x first second is durable have kept unbegun kept_next = (
-  have.journal,
+    → IfSome o (λ files. (journal : ℕ → List Placed) × HaveFound files rs n g signs began index journal) → IfSome o (AreAllDurable w n g) → IfSome o (AreUnbegun n next) → IfSome o (AreUnbegunDurable x n next)
+    → IfSome o (λ files. (journal : ℕ → List Placed) × (seq : Sequence) × WasRead x rs (last_of began) journal files × AreFound files rs signs index (record { instance = rs; journal = journal }) seq × IsIndexOf journal (reigns rs) index seq)
+was_read None v w x rs began signs index n g next many newest drawn lawful_w lawful_x first second is durable have kept unbegun kept_next = tt
+was_read (Some files) v w x rs began signs index n g next many newest drawn lawful_w lawful_x first second is durable have kept unbegun kept_next = (
+  have.0,
+  have.1.seq,
   record {
     holds = record {
       instance = is;
-      older = λ r here. subst (λ (k : ℕ). IsJournal files r k (last r) (have.journal r)) newest (have.have r (omega (arith, here, many)));
-      no_more = λ r high. have.are.no_more r (omega (arith, high, many, all));
+      older = λ r here. subst (λ (k : ℕ). IsJournal files r k (last_of began r) (have.0 r)) newest (have.1.journals r (omega (arith, here, many)));
+      no_more = λ r high. have.1.no_more r (omega (arith, high, many));
       next = λ r here. subst (λ (k : ℕ). records (files (journal_file k r)) ≡ Some []) drawn (unbegun r (omega (arith, here, many)));
     };
     instance = durable_kept w x INSTANCE (files INSTANCE) lawful_x second (durable_kept v w INSTANCE (files INSTANCE) lawful_w first durable);
@@ -118,6 +123,6 @@ was_read (Some files) v w x rs last signs n g next many newest drawn all lawful_
         (λ h least most. durable_kept w x (journal_file h r) (files (journal_file h r)) lawful_x second (kept r (omega (arith, here, many)) h least most));
     next = λ r here. subst (λ (k : ℕ). IsDurable x (journal_file k r) (files (journal_file k r))) drawn (kept_next r (omega (arith, here, many)));
   },
-  have.are,
-  have.ordered,
+  are_found files rs n g signs began index have.0 many newest is have.1,
+  have.1.among,
 )

@@ -5,10 +5,10 @@ use Rattle.disk_defs.specs.Disk.{Files}
 use Rattle.journal_defs.specs.Journal as journal
 use Rattle.journal_defs.specs.Journal.{JournalRecord}
 use Rattle.journal_defs.specs.Sequence.{Placed}
-use Rattle.jnl_index.specs.declared.placed.PlacedSign.{PlacedSign}
-use Rattle.jnl_index.specs.declared.sign.Sign.{Sign}
-use Rattle.jnl_index.specs.declared.sign.Sign.TheVariants.{Pini, Epoch, Pblk, Tcom}
-use Rattle.jnl_index.specs.Places.{AreSignsOf}
+use Rattle.entry_index.specs.declared.placed.PlacedSign.{PlacedSign}
+use Rattle.entry_index.specs.declared.sign.Sign.{Sign}
+use Rattle.entry_index.specs.declared.sign.Sign.TheVariants.{Pini, Epoch, Pblk, Tcom}
+use Rattle.entry_index.specs.Places.{AreSignsOf}
 
 -- the record is a part whose number is past this one
 abbrev pub is_past : ℕ → JournalRecord → Bool

@@ -8,7 +8,7 @@ use Rattle.journal_defs.specs.Instance.{regions}
 use Rattle.journal_defs.specs.Sequence.{Placed, Records}
 use Rattle.journal_defs.specs.Stands.{AreRecords}
 use Rattle.jnl_file.specs.Generations.{AreDurable}
-use Rattle.jnl_index.specs.declared.placed.PlacedSign.{PlacedSign}
+use Rattle.entry_index.specs.declared.placed.PlacedSign.{PlacedSign}
 use Rattle.entry_index.specs.Among.{AreAllInOrder}
 use Rattle.entry_index.specs.Indexes.{AreSigns}
 use Rattle.site_defs.specs.Outside.{HaveJournals}

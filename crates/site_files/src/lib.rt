@@ -1,8 +1,8 @@
 //! The files of a site: its instance file, and a journal for each generation of each of its regions.
 //!
-//! Opening a site begins here: its files are synced and read, each record leaves its sign and its place, and of these an index of the
-//! entries is made. Then the next generation is drawn and begun in each region, with the text of what was broken beside it. Whatever a
-//! crash leaves of that, the files stand for the same sequence.
+//! Opening a site begins here: its files are synced and read, which leaves an index of the entries and the signs and places of the
+//! records that are kept. Then the next generation is drawn and begun in each region, with the text of what was broken beside it.
+//! Whatever a crash leaves of that, the files stand for the same sequence.
 #![tactic(auto)]
 
 mod cuts;
@@ -25,6 +25,6 @@ pub use laws::{
     lost_files_are_free, reading_gives_the_records,
 };
 pub use mapping::directory_of;
-pub use reading::{ReadSite, read_records, read_site, see_ahead};
-pub use remembering::{Remembered, count_entries, remember_all};
+pub use reading::{ReadEntries, ReadSite, read_records, read_site, see_ahead};
+pub use remembering::{Remembered, remember_all};
 pub use texts::write_lost;

@@ -1,18 +1,18 @@
 //! The parts past the length of a site, read again from their places.
 ghost use Rattle.std.specs.Prelude.{◌≡◌, ◌⊎◌, ◌≤◌, ◌<◌, ◌++◌, ◌∷◌, [], ℕ, List, length, map, IfOk, IfSome, OnOk, OnErr, IsErrOf};
-ghost use Rattle.disk_defs.specs.Disk.{Reads, Rose};
+ghost use Rattle.disk_defs.specs.Disk.{Reads, MayFail};
 ghost use Rattle.journal_defs.specs.Sequence.{Placed};
 ghost use Rattle.jnl_record.specs.Values.{placed_value};
-ghost use Rattle.jnl_index.specs.Places.{IsSignOf};
+ghost use Rattle.entry_index.specs.Places.{IsSignOf};
 ghost use Rattle.mupip_recover.specs.Site.{journal_of};
 ghost use Rattle.entry_index.specs.Indexes.{AreSigns};
 ghost use Rattle.site_files.specs.Errors.{placed_error};
 ghost use Rattle.site_files.specs.Past.{is_past_by_sign, all_past, AreRegionSigns};
 
 use crate::error::FilesError;
+use entry_index::{PlacedSign, Sign, read_placed};
 use gvn_key::NoMemory;
 use jnl_file::{JournalError, journal_file};
-use jnl_index::{PlacedSign, Sign, read_placed};
 use jnl_record::PlacedRecord;
 use repl_disk::Disk;
 use std::alloc::Global;
@@ -52,9 +52,7 @@ fn read_record<D: Disk>(
     ensures found { IfOk result (λ made. IfSome (D.disk disk.old).content (λ files. (p : Placed) → IsSignOf files region placed.now p → placed_value made ≡ p)) }
     ensures outside { (file offset : ℕ) → IsErrOf result (FilesError.NotAFile file offset) → IfSome (D.disk disk.old).content (λ files. (p : Placed) → IsSignOf files region placed.now p → p.generation ≤ 65535 → ⊥) }
     ensures reads { Reads (D.disk disk.old) (D.disk disk.new) }
-    ensures later { (D.disk disk.old).faults ≤ (D.disk disk.new).faults }
-    ensures count { (fault : ℕ) → IsErrOf result (FilesError.Failed fault) → fault ≡ (D.disk disk.new).faults }
-    ensures cause { (fault : ℕ) → IsErrOf result (FilesError.Failed fault) → Rose (D.disk disk.old).faults (D.disk disk.new).faults }
+    ensures faults { MayFail (D.disk disk.old).faults (D.disk disk.new).faults (λ fault. IsErrOf result (FilesError.Failed fault)) }
     ensures causes { OnErr result (((fault : ℕ) × IsErrOf result (FilesError.Failed fault)) ⊎ ((file : ℕ) × (offset : ℕ) × IsErrOf result (FilesError.NotAFile file offset)) ⊎ IsErrOf result FilesError.NoMemory) }
 {
     let PlacedSign {
@@ -96,9 +94,7 @@ fn add_past<D: Disk>(
     ensures added { OnOk result (IfSome (D.disk disk.old).content (λ files. (p : Placed) → IsSignOf files region placed.now p → map placed_value made.new.items ≡ map placed_value made.old.items ++ all_past length (p ∷ []))) }
     ensures outside { (file offset : ℕ) → IsErrOf result (FilesError.NotAFile file offset) → IfSome (D.disk disk.old).content (λ files. (p : Placed) → IsSignOf files region placed.now p → p.generation ≤ 65535 → ⊥) }
     ensures reads { Reads (D.disk disk.old) (D.disk disk.new) }
-    ensures later { (D.disk disk.old).faults ≤ (D.disk disk.new).faults }
-    ensures count { (fault : ℕ) → IsErrOf result (FilesError.Failed fault) → fault ≡ (D.disk disk.new).faults }
-    ensures cause { (fault : ℕ) → IsErrOf result (FilesError.Failed fault) → Rose (D.disk disk.old).faults (D.disk disk.new).faults }
+    ensures faults { MayFail (D.disk disk.old).faults (D.disk disk.new).faults (λ fault. IsErrOf result (FilesError.Failed fault)) }
     ensures causes { OnErr result (((fault : ℕ) × IsErrOf result (FilesError.Failed fault)) ⊎ ((file : ℕ) × (offset : ℕ) × IsErrOf result (FilesError.NotAFile file offset)) ⊎ IsErrOf result FilesError.NoMemory) }
 {
     if !is_past(&placed.sign, length) {
@@ -121,9 +117,7 @@ fn read_region<D: Disk>(
     ensures read { IfOk result (λ made. IfSome (D.disk disk.old).content (λ files. (journal : List Placed) → AreRegionSigns files region signs.now journal → map placed_value made.items ≡ all_past length journal)) }
     ensures outside { (file offset : ℕ) → IsErrOf result (FilesError.NotAFile file offset) → IfSome (D.disk disk.old).content (λ files. (journal : List Placed) → AreRegionSigns files region signs.now journal → ⊥) }
     ensures reads { Reads (D.disk disk.old) (D.disk disk.new) }
-    ensures later { (D.disk disk.old).faults ≤ (D.disk disk.new).faults }
-    ensures count { (fault : ℕ) → IsErrOf result (FilesError.Failed fault) → fault ≡ (D.disk disk.new).faults }
-    ensures cause { (fault : ℕ) → IsErrOf result (FilesError.Failed fault) → Rose (D.disk disk.old).faults (D.disk disk.new).faults }
+    ensures faults { MayFail (D.disk disk.old).faults (D.disk disk.new).faults (λ fault. IsErrOf result (FilesError.Failed fault)) }
     ensures causes { OnErr result (((fault : ℕ) × IsErrOf result (FilesError.Failed fault)) ⊎ ((file : ℕ) × (offset : ℕ) × IsErrOf result (FilesError.NotAFile file offset)) ⊎ IsErrOf result FilesError.NoMemory) }
 {
     let mut made = Vec::new(alloc);
@@ -156,9 +150,7 @@ pub fn read_past<D: Disk>(
         → (r : ℕ) → journal_of (map (λ j. j.items) made.items) r ≡ all_past count (journal r))) }
     ensures outside { (file offset : ℕ) → IsErrOf result (FilesError.NotAFile file offset) → IfSome (D.disk disk.old).content (λ files. (journal : ℕ → List Placed) → AreSigns files (map (λ s. s.items) signs.now) journal → ⊥) }
     ensures reads { Reads (D.disk disk.old) (D.disk disk.new) }
-    ensures later { (D.disk disk.old).faults ≤ (D.disk disk.new).faults }
-    ensures count { (fault : ℕ) → IsErrOf result (FilesError.Failed fault) → fault ≡ (D.disk disk.new).faults }
-    ensures cause { (fault : ℕ) → IsErrOf result (FilesError.Failed fault) → Rose (D.disk disk.old).faults (D.disk disk.new).faults }
+    ensures faults { MayFail (D.disk disk.old).faults (D.disk disk.new).faults (λ fault. IsErrOf result (FilesError.Failed fault)) }
     ensures causes { OnErr result (((fault : ℕ) × IsErrOf result (FilesError.Failed fault)) ⊎ ((file : ℕ) × (offset : ℕ) × IsErrOf result (FilesError.NotAFile file offset)) ⊎ IsErrOf result FilesError.NoMemory) }
 {
     let mut made = Vec::new(alloc);

@@ -1,6 +1,6 @@
 //! Reading the files of a site.
-ghost use Rattle.std.specs.Prelude.{◌≡◌, ◌⊎◌, ◌≤◌, ◌<◌, ◌++◌, ◌∷◌, [], ℕ, suc, List, length, map, Some, None, IfSome, IfOk, OnOk, OnErr, IsErrOf};
-ghost use Rattle.disk_defs.specs.Disk.{Image, IsDurable, AtEachMoment, Rose};
+ghost use Rattle.std.specs.Prelude.{◌≡◌, ◌⊎◌, ◌≤◌, ◌<◌, ◌*◌, ◌++◌, ◌∷◌, [], ℕ, suc, List, length, map, Some, None, IfSome, IfOk, OnOk, OnErr, IsErrOf};
+ghost use Rattle.disk_defs.specs.Disk.{Image, IsDurable, AtEachMoment, Reads, MayFail};
 ghost use Rattle.disk_defs.specs.Gates.{records};
 ghost use Rattle.std.specs.List.{AllByRecursion};
 ghost use Rattle.instance_file.specs.Order.{AreInOrder};
@@ -9,15 +9,19 @@ ghost use Rattle.journal_defs.specs.Directory.{Pattern, patterns};
 ghost use Rattle.journal_defs.specs.Numbers.{INSTANCE, journal_file};
 ghost use Rattle.journal_defs.specs.Instance as defs;
 ghost use Rattle.journal_defs.specs.Instance.{generation};
-ghost use Rattle.journal_defs.specs.Sequence.{Placed, Records};
-ghost use Rattle.journal_defs.specs.Stands.{IsInstance, IsJournal, AreRecords};
+ghost use Rattle.global_defs.specs.Entry.{Sequence};
+ghost use Rattle.journal_defs.specs.Sequence.{Placed, Records, IsSequence};
+ghost use Rattle.journal_defs.specs.Surviving.{reigns};
+ghost use Rattle.journal_defs.specs.Stands.{IsInstance, IsJournal};
 ghost use Rattle.jnl_file.specs.Generations.{AreDurable};
 ghost use Rattle.site_defs.specs.OutsideJournal.{IsOutsideGenerations};
-ghost use Rattle.jnl_index.specs.Order as orders;
-ghost use Rattle.jnl_index.specs.Places.{AreSignsOf};
-ghost use Rattle.entry_index.specs.Among.{AreAllInOrder};
-ghost use Rattle.entry_index.specs.Indexes.{AreSigns};
-ghost use Rattle.site_files.specs.Errors.{generations_error};
+ghost use Rattle.entry_index.specs.Order as orders;
+ghost use Rattle.entry_index.specs.Places.{AreSignsOf};
+ghost use Rattle.entry_index.specs.Among.{ArePlaced, IsIndexOf};
+ghost use Rattle.entry_index.specs.Indexes.{AreSigns, Indexes};
+ghost use Rattle.entry_index.specs.Parts.{InFiles};
+ghost use Rattle.entry_index.specs.Found.{AreFound, HaveFound};
+ghost use Rattle.site_files.specs.Errors.{generations_error, index_error};
 ghost use Rattle.site_files.specs.Loading.{MayBeOpened, AreRead, WasRead, IsDirectory, last_of};
 ghost use Rattle.site_defs.specs.Outside.{AreOutside, HaveBegun, IsOutsideRecords, IsOutsideSite, HaveJournals, AreUnbegun};
 ghost use Rattle.site_files.specs.Reading.{HaveSigns, AreAllDurable, AreUnbegunDurable, HoldNoSite};
@@ -25,11 +29,14 @@ ghost use Rattle.site_files.specs.Reading.{HaveSigns, AreAllDurable, AreUnbegunD
 use crate::error::FilesError;
 use crate::finding::{generation_in, read_instance};
 use crate::mapping::directory_of;
+use entry_index::{
+    EntryIndex, FoundJournals, IndexError, PlacedSign, RegionSigns, index_generations,
+    look_side_by_side,
+};
 use global_dir::Directory;
 use gvn_key::NoMemory;
 use instance_file::{InstanceLog, InstanceRecord};
 use jnl_file::{GenerationsError, is_unbegun, journal_file};
-use jnl_index::{PlacedSign, RegionSigns, index_generations};
 use repl_disk::Disk;
 use std::alloc::Global;
 
@@ -43,11 +50,19 @@ pub struct ReadSite {
     pub log: InstanceLog,
     /// Which region each name belongs to.
     pub directory: Directory,
-    /// What the records of its journals say and where they stand, by region, each over all generations.
+    /// What those records of its journals say that are kept and where they stand, by region, each over all generations.
     pub signs: Vec<Vec<PlacedSign>>,
     /// The last generation that began in each region, or 0.
     pub last_began: Vec<u32>,
     pub ghost few: { length signs.items ≤ 8 },
+}
+
+/// What was read of a site, and the entries for which it stands.
+#[derive(Drop)]
+pub struct ReadEntries {
+    pub read: ReadSite,
+    /// Where each entry's parts stand, by the entries' numbers from 1 on.
+    pub entries: EntryIndex,
 }
 
 /// An error of the journals, on a disk with this count of faults.
@@ -78,9 +93,7 @@ fn index_journals<D: Disk>(
     ensures content { (D.disk disk.new).content ≡ (D.disk disk.old).content }
     ensures any_moment { AtEachMoment (D.disk disk.old) (D.disk disk.new) (Image (D.disk disk.old)) }
     ensures simulated { (D.disk disk.new).simulated ≡ (D.disk disk.old).simulated }
-    ensures later { (D.disk disk.old).faults ≤ (D.disk disk.new).faults }
-    ensures count { (fault : ℕ) → IsErrOf result (FilesError.Failed fault) → fault ≡ (D.disk disk.new).faults }
-    ensures cause { (fault : ℕ) → IsErrOf result (FilesError.Failed fault) → Rose (D.disk disk.old).faults (D.disk disk.new).faults }
+    ensures faults { MayFail (D.disk disk.old).faults (D.disk disk.new).faults (λ fault. IsErrOf result (FilesError.Failed fault)) }
     ensures causes { OnErr result (((fault : ℕ) × IsErrOf result (FilesError.Failed fault)) ⊎ ((file : ℕ) × (offset : ℕ) × IsErrOf result (FilesError.NotAFile file offset)) ⊎ IsErrOf result FilesError.NoMemory) }
 {
     match index_generations(alloc, disk, region, last) {
@@ -112,6 +125,108 @@ struct ReadRegions {
     last_began: Vec<u32>,
 }
 
+/// An error of an index, on a disk with this count of faults.
+fn in_index(error: IndexError, fault: u64) -> FilesError
+    ensures { result ≡ index_error fault error }
+{
+    match error {
+        IndexError::Failed => FilesError::Failed { fault },
+        IndexError::NotAFile { file, offset } => FilesError::NotAFile { file, offset },
+        IndexError::NoMemory => FilesError::NoMemory,
+    }
+}
+
+/// The index of the entries for which a site's records stand, by the signs of all.
+fn index_of<D: Disk>(
+    alloc: Global,
+    disk: &mut D,
+    log: &InstanceLog,
+    signs: &[Vec<PlacedSign>],
+) -> Result<EntryIndex, FilesError>
+    requires few { length signs.now ≤ 8 }
+    ensures sequence { IfOk result (λ made. IfSome (D.disk disk.old).content (λ files. (journal : ℕ → List Placed) → AreSigns files (map (λ s. s.items) signs.now) journal
+        → (seq : Sequence) × IsSequence (record { instance = log.now.records; journal = journal }) seq × Indexes (InFiles files) (reigns log.now.records) made seq)) }
+    ensures regions { IfOk result (λ made. made.regions ≡ length signs.now) }
+    ensures rows { IfOk result (λ made. (n : ℕ) × (length made.places.items ≡ made.regions * n)) }
+    ensures placed { IfOk result (λ made. ArePlaced log.now.records (map (λ s. s.items) signs.now) made) }
+    ensures outside { (file offset : ℕ) → IsErrOf result (FilesError.NotAFile file offset) → IfSome (D.disk disk.old).content (λ files. (journal : ℕ → List Placed) → AreSigns files (map (λ s. s.items) signs.now) journal → ⊥) }
+    ensures reads { Reads (D.disk disk.old) (D.disk disk.new) }
+    ensures faults { MayFail (D.disk disk.old).faults (D.disk disk.new).faults (λ fault. IsErrOf result (FilesError.Failed fault)) }
+    ensures causes { OnErr result (((fault : ℕ) × IsErrOf result (FilesError.Failed fault)) ⊎ ((file : ℕ) × (offset : ℕ) × IsErrOf result (FilesError.NotAFile file offset)) ⊎ IsErrOf result FilesError.NoMemory) }
+{
+    match EntryIndex::build(alloc, disk, &log.records, &log.history, signs) {
+        Ok(made) => Ok(made),
+        Err(error) => Err(in_index(error, disk.faults())),
+    }
+}
+
+/// Syncs and reads the journals of the first regions up to a generation, one after the other, and indexes the entries.
+fn read_in_turn<D: Disk>(
+    alloc: Global,
+    disk: &mut D,
+    log: &InstanceLog,
+    regions: u8,
+    last: u32,
+) -> Result<FoundJournals, FilesError>
+    requires regions { regions ≤ 8 }
+    requires last { last ≤ 65535 }
+    ensures found { IfOk result (λ made. IfSome (D.disk disk.old).content (λ files. (journal : ℕ → List Placed)
+        × HaveFound files log.now.records regions last (map (λ s. s.items) made.signs.items) made.last_began.items made.entries journal)) }
+    ensures many { IfOk result (λ made. length made.signs.items ≡ regions) }
+    ensures many_last { IfOk result (λ made. length made.last_began.items ≡ regions) }
+    ensures began { IfOk result (λ made. (r : ℕ) → last_of made.last_began.items r ≤ last) }
+    ensures rows { IfOk result (λ made. (made.entries.regions ≡ regions) × (n : ℕ) × (length made.entries.places.items ≡ regions * n)) }
+    ensures durable { OnOk result (IfSome (D.disk disk.old).content (AreAllDurable (D.disk disk.new) regions last)) }
+    ensures place { (file offset : ℕ) → IsErrOf result (FilesError.NotAFile file offset) → IfSome (D.disk disk.old).content (λ files. AreOutside files regions last file offset) }
+    ensures outside { (file offset : ℕ) → IsErrOf result (FilesError.NotAFile file offset) → IfSome (D.disk disk.old).content (λ files. (began : ℕ → ℕ) (journal : ℕ → List Placed) → HaveJournals regions last began journal files → ⊥) }
+    ensures content { (D.disk disk.new).content ≡ (D.disk disk.old).content }
+    ensures any_moment { AtEachMoment (D.disk disk.old) (D.disk disk.new) (Image (D.disk disk.old)) }
+    ensures simulated { (D.disk disk.new).simulated ≡ (D.disk disk.old).simulated }
+    ensures faults { MayFail (D.disk disk.old).faults (D.disk disk.new).faults (λ fault. IsErrOf result (FilesError.Failed fault)) }
+    ensures causes { OnErr result (((fault : ℕ) × IsErrOf result (FilesError.Failed fault)) ⊎ ((file : ℕ) × (offset : ℕ) × IsErrOf result (FilesError.NotAFile file offset)) ⊎ IsErrOf result FilesError.NoMemory) }
+{
+    let ReadRegions { signs, last_began } = read_regions(alloc, disk, regions, last)?;
+    let entries = index_of(alloc, disk, log, &signs)?;
+    Ok(FoundJournals {
+        entries,
+        signs,
+        last_began,
+    })
+}
+
+/// Syncs and reads the journals of the first regions up to a generation, and indexes the entries.
+fn read_journals<D: Disk>(
+    alloc: Global,
+    disk: &mut D,
+    log: &InstanceLog,
+    regions: u8,
+    last: u32,
+) -> Result<FoundJournals, FilesError>
+    requires regions { regions ≤ 8 }
+    requires last { last ≤ 65535 }
+    ensures found { IfOk result (λ made. IfSome (D.disk disk.old).content (λ files. (journal : ℕ → List Placed)
+        × HaveFound files log.now.records regions last (map (λ s. s.items) made.signs.items) made.last_began.items made.entries journal)) }
+    ensures many { IfOk result (λ made. length made.signs.items ≡ regions) }
+    ensures many_last { IfOk result (λ made. length made.last_began.items ≡ regions) }
+    ensures began { IfOk result (λ made. (r : ℕ) → last_of made.last_began.items r ≤ last) }
+    ensures rows { IfOk result (λ made. (made.entries.regions ≡ regions) × (n : ℕ) × (length made.entries.places.items ≡ regions * n)) }
+    ensures durable { OnOk result (IfSome (D.disk disk.old).content (AreAllDurable (D.disk disk.new) regions last)) }
+    ensures place { (file offset : ℕ) → IsErrOf result (FilesError.NotAFile file offset) → IfSome (D.disk disk.old).content (λ files. AreOutside files regions last file offset) }
+    ensures outside { (file offset : ℕ) → IsErrOf result (FilesError.NotAFile file offset) → IfSome (D.disk disk.old).content (λ files. (began : ℕ → ℕ) (journal : ℕ → List Placed) → HaveJournals regions last began journal files → ⊥) }
+    ensures content { (D.disk disk.new).content ≡ (D.disk disk.old).content }
+    ensures any_moment { AtEachMoment (D.disk disk.old) (D.disk disk.new) (Image (D.disk disk.old)) }
+    ensures simulated { (D.disk disk.new).simulated ≡ (D.disk disk.old).simulated }
+    ensures faults { MayFail (D.disk disk.old).faults (D.disk disk.new).faults (λ fault. IsErrOf result (FilesError.Failed fault)) }
+    ensures causes { OnErr result (((fault : ℕ) × IsErrOf result (FilesError.Failed fault)) ⊎ ((file : ℕ) × (offset : ℕ) × IsErrOf result (FilesError.NotAFile file offset)) ⊎ IsErrOf result FilesError.NoMemory) }
+{
+    let records = &log.records;
+    match look_side_by_side(alloc, disk, records, &log.history, regions, last) {
+        Ok(Some(found)) => Ok(found),
+        Ok(None) => read_in_turn(alloc, disk, log, regions, last),
+        Err(error) => Err(in_index(error, disk.faults())),
+    }
+}
+
 /// Syncs and reads the journals of the first regions up to a generation.
 fn read_regions<D: Disk>(
     alloc: Global,
@@ -131,9 +246,7 @@ fn read_regions<D: Disk>(
     ensures content { (D.disk disk.new).content ≡ (D.disk disk.old).content }
     ensures any_moment { AtEachMoment (D.disk disk.old) (D.disk disk.new) (Image (D.disk disk.old)) }
     ensures simulated { (D.disk disk.new).simulated ≡ (D.disk disk.old).simulated }
-    ensures later { (D.disk disk.old).faults ≤ (D.disk disk.new).faults }
-    ensures count { (fault : ℕ) → IsErrOf result (FilesError.Failed fault) → fault ≡ (D.disk disk.new).faults }
-    ensures cause { (fault : ℕ) → IsErrOf result (FilesError.Failed fault) → Rose (D.disk disk.old).faults (D.disk disk.new).faults }
+    ensures faults { MayFail (D.disk disk.old).faults (D.disk disk.new).faults (λ fault. IsErrOf result (FilesError.Failed fault)) }
     ensures causes { OnErr result (((fault : ℕ) × IsErrOf result (FilesError.Failed fault)) ⊎ ((file : ℕ) × (offset : ℕ) × IsErrOf result (FilesError.NotAFile file offset)) ⊎ IsErrOf result FilesError.NoMemory) }
 {
     let mut signs = Vec::new(alloc);
@@ -161,9 +274,7 @@ fn see_unbegun<D: Disk>(
     ensures content { (D.disk disk.new).content ≡ (D.disk disk.old).content }
     ensures any_moment { AtEachMoment (D.disk disk.old) (D.disk disk.new) (Image (D.disk disk.old)) }
     ensures simulated { (D.disk disk.new).simulated ≡ (D.disk disk.old).simulated }
-    ensures later { (D.disk disk.old).faults ≤ (D.disk disk.new).faults }
-    ensures count { (fault : ℕ) → IsErrOf result (FilesError.Failed fault) → fault ≡ (D.disk disk.new).faults }
-    ensures cause { (fault : ℕ) → IsErrOf result (FilesError.Failed fault) → Rose (D.disk disk.old).faults (D.disk disk.new).faults }
+    ensures faults { MayFail (D.disk disk.old).faults (D.disk disk.new).faults (λ fault. IsErrOf result (FilesError.Failed fault)) }
     ensures causes { OnErr result (((fault : ℕ) × IsErrOf result (FilesError.Failed fault)) ⊎ ((file : ℕ) × (offset : ℕ) × IsErrOf result (FilesError.NotAFile file offset)) ⊎ IsErrOf result FilesError.NoMemory) }
 {
     match is_unbegun(alloc, disk, region, generation) {
@@ -192,9 +303,7 @@ fn see_regions<D: Disk>(
     ensures content { (D.disk disk.new).content ≡ (D.disk disk.old).content }
     ensures any_moment { AtEachMoment (D.disk disk.old) (D.disk disk.new) (Image (D.disk disk.old)) }
     ensures simulated { (D.disk disk.new).simulated ≡ (D.disk disk.old).simulated }
-    ensures later { (D.disk disk.old).faults ≤ (D.disk disk.new).faults }
-    ensures count { (fault : ℕ) → IsErrOf result (FilesError.Failed fault) → fault ≡ (D.disk disk.new).faults }
-    ensures cause { (fault : ℕ) → IsErrOf result (FilesError.Failed fault) → Rose (D.disk disk.old).faults (D.disk disk.new).faults }
+    ensures faults { MayFail (D.disk disk.old).faults (D.disk disk.new).faults (λ fault. IsErrOf result (FilesError.Failed fault)) }
     ensures causes { OnErr result (((fault : ℕ) × IsErrOf result (FilesError.Failed fault)) ⊎ ((file : ℕ) × (offset : ℕ) × IsErrOf result (FilesError.NotAFile file offset)) ⊎ IsErrOf result FilesError.NoMemory) }
 {
     for region in 0..regions {
@@ -255,51 +364,74 @@ fn lay_out(alloc: Global, records: &[InstanceRecord]) -> Result<Plan, FilesError
     Ok(plan)
 }
 
-/// Syncs and reads the instance file and the journals of a site, however many generations were drawn. It writes nothing, and keeps of each
-/// record what it says and where it stands.
+/// What was read of a site, by its instance file, its directory and what was found in its journals.
+fn with_found(log: InstanceLog, directory: Directory, found: FoundJournals) -> ReadEntries
+    requires { length found.signs.items ≤ 8 }
+    ensures log { result.read.log ≡ log }
+    ensures directory { result.read.directory ≡ directory }
+    ensures signs { result.read.signs ≡ found.signs }
+    ensures last_began { result.read.last_began ≡ found.last_began }
+    ensures entries { result.entries ≡ found.entries }
+{
+    let FoundJournals {
+        entries,
+        signs,
+        last_began,
+    } = found;
+    ReadEntries {
+        read: ReadSite {
+            log,
+            directory,
+            signs,
+            last_began,
+        },
+        entries,
+    }
+}
+
+/// Syncs and reads the instance file and the journals of a site, however many generations were drawn. It writes nothing, and answers the
+/// index of the entries, and what the records say that are kept and where they stand.
 ///
 /// # Errors
 /// `NotAFile` exactly where the files hold no site's records, with the first file that is outside the format and the place of
 /// what can't stand there.
-pub fn read_records<D: Disk>(alloc: Global, disk: &mut D) -> Result<ReadSite, FilesError>
-    ensures held { IfOk result (λ read. IfSome (D.disk disk.old).content (λ files. (u : Records) × (u.instance ≡ read.log.records) × AreRecords files u × AreSigns files (map (λ s. s.items) read.signs.items) u.journal)) }
-    ensures signs { IfOk result (λ read. length read.signs.items ≡ length (defs.regions read.log.records)) }
-    ensures order { IfOk result (λ read. AreInOrder read.log.records) }
+pub fn read_records<D: Disk>(alloc: Global, disk: &mut D) -> Result<ReadEntries, FilesError>
+    ensures held { IfOk result (λ found. IfSome (D.disk disk.old).content (λ files. (u : Records) × (seq : Sequence) × AreFound files found.read.log.records (map (λ s. s.items) found.read.signs.items) found.entries u seq)) }
+    ensures signs { IfOk result (λ found. length found.read.signs.items ≡ length (defs.regions found.read.log.records)) }
+    ensures rows { IfOk result (λ found. (found.entries.regions ≡ length (defs.regions found.read.log.records)) × (n : ℕ) × (length found.entries.places.items ≡ found.entries.regions * n)) }
+    ensures order { IfOk result (λ found. AreInOrder found.read.log.records) }
     ensures place { (file offset : ℕ) → IsErrOf result (FilesError.NotAFile file offset) → IfSome (D.disk disk.old).content (λ files. IsOutsideRecords files file offset) }
     ensures outside { (file offset : ℕ) → IsErrOf result (FilesError.NotAFile file offset) → IfSome (D.disk disk.old).content HoldNoSite }
     ensures content { (D.disk disk.new).content ≡ (D.disk disk.old).content }
     ensures any_moment { AtEachMoment (D.disk disk.old) (D.disk disk.new) (Image (D.disk disk.old)) }
     ensures simulated { (D.disk disk.new).simulated ≡ (D.disk disk.old).simulated }
-    ensures later { (D.disk disk.old).faults ≤ (D.disk disk.new).faults }
-    ensures count { (fault : ℕ) → IsErrOf result (FilesError.Failed fault) → fault ≡ (D.disk disk.new).faults }
-    ensures cause { (fault : ℕ) → IsErrOf result (FilesError.Failed fault) → Rose (D.disk disk.old).faults (D.disk disk.new).faults }
+    ensures faults { MayFail (D.disk disk.old).faults (D.disk disk.new).faults (λ fault. IsErrOf result (FilesError.Failed fault)) }
     ensures causes { OnErr result (((fault : ℕ) × IsErrOf result (FilesError.Failed fault)) ⊎ ((file : ℕ) × (offset : ℕ) × IsErrOf result (FilesError.NotAFile file offset)) ⊎ IsErrOf result FilesError.NoMemory) }
 {
     let log = read_instance(alloc, disk)?;
     let plan = plan_of(alloc, log.records.as_slice())?;
-    let found = read_regions(alloc, disk, plan.regions, plan.newest)?;
-    Ok(ReadSite {
-        log,
-        directory: plan.directory,
-        signs: found.signs,
-        last_began: found.last_began,
-    })
+    let found = read_journals(alloc, disk, &log, plan.regions, plan.newest)?;
+    Ok(with_found(log, plan.directory, found))
 }
 
 /// Syncs and reads the instance file and the journals of a site that is to be opened, of which a generation is left. It writes
-/// nothing, and keeps of each record what it says and where it stands.
+/// nothing, and answers the index of the entries, and what the records say that are kept and where they stand.
 ///
 /// # Errors
 /// `GenLimit` where no generation is left; `NotAFile` with the first file that is outside the format and the place of what
 /// can't stand there, or with the first journal of the next generation that has begun already.
-pub fn read_site<D: Disk>(alloc: Global, disk: &mut D) -> Result<ReadSite, FilesError>
-    ensures form { IfOk result (λ read. MayBeOpened read.log.records (last_of read.last_began.items)) }
-    ensures directory { IfOk result (λ read. IsDirectory read.log.records (Some read.directory)) }
-    ensures counted { IfOk result (λ read. length read.last_began.items ≡ length (defs.regions read.log.records)) }
+pub fn read_site<D: Disk>(alloc: Global, disk: &mut D) -> Result<ReadEntries, FilesError>
+    ensures form { IfOk result (λ found. MayBeOpened found.read.log.records (last_of found.read.last_began.items)) }
+    ensures directory { IfOk result (λ found. IsDirectory found.read.log.records (Some found.read.directory)) }
+    ensures counted { IfOk result (λ found. length found.read.last_began.items ≡ length (defs.regions found.read.log.records)) }
     // another generation than the next one is left
-    ensures low { IfOk result (λ read. generation read.log.records < 65534) }
-    ensures read { IfOk result (λ read. IfSome (D.disk disk.old).content (λ files. (journal : ℕ → List Placed) × WasRead (D.disk disk.new) read.log.records (last_of read.last_began.items) journal files × AreSigns files (map (λ s. s.items) read.signs.items) journal × AreAllInOrder (map (λ s. s.items) read.signs.items) journal)) }
-    ensures signs { IfOk result (λ read. length read.signs.items ≡ length (defs.regions read.log.records)) }
+    ensures low { IfOk result (λ found. generation found.read.log.records < 65534) }
+    ensures read { IfOk result (λ found. IfSome (D.disk disk.old).content (λ files. (journal : ℕ → List Placed) × (seq : Sequence)
+        × WasRead (D.disk disk.new) found.read.log.records (last_of found.read.last_began.items) journal files
+        × AreFound files found.read.log.records (map (λ s. s.items) found.read.signs.items) found.entries (record { instance = found.read.log.records; journal = journal }) seq
+        × IsIndexOf journal (reigns found.read.log.records) found.entries seq)) }
+    ensures signs { IfOk result (λ found. length found.read.signs.items ≡ length (defs.regions found.read.log.records)) }
+    ensures rows { IfOk result (λ found. (found.entries.regions ≡ length (defs.regions found.read.log.records)) × (n : ℕ) × (length found.entries.places.items ≡ found.entries.regions * n)) }
     ensures limit { IsErrOf result FilesError.GenLimit → IfSome (D.disk disk.old).content (λ files. (rs : List defs.InstanceRecord) → IsInstance (files INSTANCE) rs → 65534 ≤ generation rs) }
     ensures limit_told { IsErrOf result FilesError.GenLimit → IfSome (D.disk disk.old).content (λ files. (rs : List defs.InstanceRecord) × IsInstance (files INSTANCE) rs × (65534 ≤ generation rs)) }
     ensures place { (file offset : ℕ) → IsErrOf result (FilesError.NotAFile file offset) → IfSome (D.disk disk.old).content (λ files. IsOutsideSite files file offset) }
@@ -309,21 +441,14 @@ pub fn read_site<D: Disk>(alloc: Global, disk: &mut D) -> Result<ReadSite, Files
     ensures content { (D.disk disk.new).content ≡ (D.disk disk.old).content }
     ensures any_moment { AtEachMoment (D.disk disk.old) (D.disk disk.new) (Image (D.disk disk.old)) }
     ensures simulated { (D.disk disk.new).simulated ≡ (D.disk disk.old).simulated }
-    ensures later { (D.disk disk.old).faults ≤ (D.disk disk.new).faults }
-    ensures count { (fault : ℕ) → IsErrOf result (FilesError.Failed fault) → fault ≡ (D.disk disk.new).faults }
-    ensures cause { (fault : ℕ) → IsErrOf result (FilesError.Failed fault) → Rose (D.disk disk.old).faults (D.disk disk.new).faults }
+    ensures faults { MayFail (D.disk disk.old).faults (D.disk disk.new).faults (λ fault. IsErrOf result (FilesError.Failed fault)) }
     ensures causes { OnErr result (IsErrOf result FilesError.GenLimit ⊎ ((fault : ℕ) × IsErrOf result (FilesError.Failed fault)) ⊎ ((file : ℕ) × (offset : ℕ) × IsErrOf result (FilesError.NotAFile file offset)) ⊎ IsErrOf result FilesError.NoMemory) }
 {
     let log = read_instance(alloc, disk)?;
     let plan = lay_out(alloc, log.records.as_slice())?;
-    let read = read_regions(alloc, disk, plan.regions, plan.newest)?;
+    let found = read_journals(alloc, disk, &log, plan.regions, plan.newest)?;
     see_regions(alloc, disk, plan.regions, plan.newest + 1)?;
-    Ok(ReadSite {
-        log,
-        directory: plan.directory,
-        signs: read.signs,
-        last_began: read.last_began,
-    })
+    Ok(with_found(log, plan.directory, found))
 }
 
 /// Syncs the journals of the generation behind the next one of a site with these records and this directory, and sees that they have no
@@ -346,9 +471,7 @@ pub fn see_ahead<D: Disk>(
     ensures content { (D.disk disk.new).content ≡ (D.disk disk.old).content }
     ensures any_moment { AtEachMoment (D.disk disk.old) (D.disk disk.new) (Image (D.disk disk.old)) }
     ensures simulated { (D.disk disk.new).simulated ≡ (D.disk disk.old).simulated }
-    ensures later { (D.disk disk.old).faults ≤ (D.disk disk.new).faults }
-    ensures count { (fault : ℕ) → IsErrOf result (FilesError.Failed fault) → fault ≡ (D.disk disk.new).faults }
-    ensures cause { (fault : ℕ) → IsErrOf result (FilesError.Failed fault) → Rose (D.disk disk.old).faults (D.disk disk.new).faults }
+    ensures faults { MayFail (D.disk disk.old).faults (D.disk disk.new).faults (λ fault. IsErrOf result (FilesError.Failed fault)) }
     ensures causes { OnErr result (((fault : ℕ) × IsErrOf result (FilesError.Failed fault)) ⊎ ((file : ℕ) × (offset : ℕ) × IsErrOf result (FilesError.NotAFile file offset)) ⊎ IsErrOf result FilesError.NoMemory) }
 {
     see_regions(alloc, disk, directory.regions(), generation_in(records) + 2)

@@ -1,6 +1,6 @@
 //! The texts of transactions that are broken or lost, in files.
 ghost use Rattle.std.specs.Prelude.{◌≡◌, ◌⊎◌, ◌≤◌, ℕ, length, IfSome, OnOk, OnErr, IsErrOf};
-ghost use Rattle.disk_defs.specs.Disk.{Files, Image, From, OnFile, AtEachMoment, ReadsAfter, Rose};
+ghost use Rattle.disk_defs.specs.Disk.{Files, Image, From, OnFile, AtEachMoment, ReadsAfter, MayFail};
 ghost use Rattle.disk_defs.specs.Frames.{Only, OthersStay};
 ghost use Rattle.journal_defs.specs.Numbers.{lost_file, broken_file};
 ghost use Rattle.site_files.specs.Loading.{IsNoLonger, IsWritten};
@@ -19,9 +19,7 @@ fn write_text<D: Disk>(disk: &mut D, file: u32, text: &[u8]) -> Result<(), Files
     ensures reads { ReadsAfter (OnFile file (IsNoLonger text.now)) (D.disk disk.old).content (D.disk disk.new).content }
     ensures any_moment { AtEachMoment (D.disk disk.old) (D.disk disk.new) (From (Image (D.disk disk.old)) (OnFile file (IsNoLonger text.now))) }
     ensures frame { OthersStay (Only file) (D.disk disk.old) (D.disk disk.new) }
-    ensures later { (D.disk disk.old).faults ≤ (D.disk disk.new).faults }
-    ensures count { (fault : ℕ) → IsErrOf result (FilesError.Failed fault) → fault ≡ (D.disk disk.new).faults }
-    ensures cause { (fault : ℕ) → IsErrOf result (FilesError.Failed fault) → Rose (D.disk disk.old).faults (D.disk disk.new).faults }
+    ensures faults { MayFail (D.disk disk.old).faults (D.disk disk.new).faults (λ fault. IsErrOf result (FilesError.Failed fault)) }
     ensures causes { OnErr result (((fault : ℕ) × IsErrOf result (FilesError.Failed fault)) ⊎ IsErrOf result FilesError.NoMemory) }
 {
     if disk.room(file, 2, text.len() as u64).is_err() {
@@ -48,9 +46,7 @@ pub fn write_broken<D: Disk>(disk: &mut D, generation: u32, text: &[u8]) -> Resu
     ensures reads { ReadsAfter (OnFile (broken_file generation) (IsNoLonger text.now)) (D.disk disk.old).content (D.disk disk.new).content }
     ensures any_moment { AtEachMoment (D.disk disk.old) (D.disk disk.new) (From (Image (D.disk disk.old)) (OnFile (broken_file generation) (IsNoLonger text.now))) }
     ensures frame { OthersStay (Only (broken_file generation)) (D.disk disk.old) (D.disk disk.new) }
-    ensures later { (D.disk disk.old).faults ≤ (D.disk disk.new).faults }
-    ensures count { (fault : ℕ) → IsErrOf result (FilesError.Failed fault) → fault ≡ (D.disk disk.new).faults }
-    ensures cause { (fault : ℕ) → IsErrOf result (FilesError.Failed fault) → Rose (D.disk disk.old).faults (D.disk disk.new).faults }
+    ensures faults { MayFail (D.disk disk.old).faults (D.disk disk.new).faults (λ fault. IsErrOf result (FilesError.Failed fault)) }
     ensures causes { OnErr result (((fault : ℕ) × IsErrOf result (FilesError.Failed fault)) ⊎ IsErrOf result FilesError.NoMemory) }
 {
     if text.is_empty() {
@@ -66,9 +62,7 @@ pub fn write_lost<D: Disk>(disk: &mut D, generation: u32, text: &[u8]) -> Result
     ensures reads { ReadsAfter (OnFile (lost_file generation) (IsNoLonger text.now)) (D.disk disk.old).content (D.disk disk.new).content }
     ensures any_moment { AtEachMoment (D.disk disk.old) (D.disk disk.new) (From (Image (D.disk disk.old)) (OnFile (lost_file generation) (IsNoLonger text.now))) }
     ensures frame { OthersStay (Only (lost_file generation)) (D.disk disk.old) (D.disk disk.new) }
-    ensures later { (D.disk disk.old).faults ≤ (D.disk disk.new).faults }
-    ensures count { (fault : ℕ) → IsErrOf result (FilesError.Failed fault) → fault ≡ (D.disk disk.new).faults }
-    ensures cause { (fault : ℕ) → IsErrOf result (FilesError.Failed fault) → Rose (D.disk disk.old).faults (D.disk disk.new).faults }
+    ensures faults { MayFail (D.disk disk.old).faults (D.disk disk.new).faults (λ fault. IsErrOf result (FilesError.Failed fault)) }
     ensures causes { OnErr result (((fault : ℕ) × IsErrOf result (FilesError.Failed fault)) ⊎ IsErrOf result FilesError.NoMemory) }
 {
     write_text(disk, LOST_FILES + generation, text)

@@ -24,7 +24,7 @@ use Rattle.world_defs.specs.Meaning.{row_at}
 use Rattle.world_defs.specs.rows.Show.{reign_text, show_state, show_on, show}
 use Rattle.world_defs.specs.rows.Zwrite as rows
 use Rattle.site_defs.specs.Texts.{zwrite}
-use Rattle.site_regions.specs.Joined.{joined}
+use Rattle.region_store.specs.Joined.{joined}
 use Rattle.repl_section.specs.declared.reign.Reign.{Reign}
 use Rattle.repl_section.specs.Reigns.{Reigns, stamp_of}
 use Rattle.site_runner.specs.declared.slot.State.{State}

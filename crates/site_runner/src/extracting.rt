@@ -1,6 +1,6 @@
 // EXTRACT.
-ghost use Rattle.std.specs.Prelude.{◌≡◌, ◌≤◌, ◌<◌, ◌+◌, ◌++◌, ℕ, true, length, drop, IfSome, IfOk, OnOk, OnErr, IsErrOf};
-ghost use Rattle.disk_defs.specs.Disk.{Reads, Rose};
+ghost use Rattle.std.specs.Prelude.{◌≡◌, ◌<◌, ◌+◌, ◌++◌, ℕ, true, length, drop, IfSome, IfOk, OnOk, OnErr, IsErrOf};
+ghost use Rattle.disk_defs.specs.Disk.{Reads, MayFail};
 ghost use Rattle.global_defs.specs.Entry.{Sequence};
 ghost use Rattle.global_defs.specs.Extract.{entries_text};
 ghost use Rattle.site_defs.specs.Contents.{Contents};
@@ -29,9 +29,7 @@ fn write_entries<D: Disk>(
     ensures some { OnOk result ((seq : Sequence) × (length seq ≡ count_of site.now) × (text.new ≡ text.old ++ entries_text (before + 1) (drop before seq))) }
     ensures outside { (file offset : ℕ) → IsErrOf result (SiteError.NotAFile file offset) → (c : Contents) (h : ℕ) → IsOpen (D.disk disk.old) true c h site.now → ⊥ }
     ensures reads { Reads (D.disk disk.old) (D.disk disk.new) }
-    ensures later { (D.disk disk.old).faults ≤ (D.disk disk.new).faults }
-    ensures count { (fault : ℕ) → IsErrOf result (SiteError.Failed fault) → fault ≡ (D.disk disk.new).faults }
-    ensures cause { (fault : ℕ) → IsErrOf result (SiteError.Failed fault) → Rose (D.disk disk.old).faults (D.disk disk.new).faults }
+    ensures faults { MayFail (D.disk disk.old).faults (D.disk disk.new).faults (λ fault. IsErrOf result (SiteError.Failed fault)) }
 {
     let starts = site.starts(text.allocator())?;
     for place in before..site.sequence_length() {

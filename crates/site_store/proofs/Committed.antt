@@ -48,7 +48,7 @@ use Rattle.site_defs.specs.Fronts.{with_sequence}
 use Rattle.site_defs.specs.Stands.{IsSite, HasLeft}
 use Rattle.site_store.specs.declared.site.OpenSite.{OpenSite}
 use Rattle.site_store.specs.Finding.{HasLayout}
-use Rattle.site_regions.specs.Joined.{joined, AreChanged}
+use Rattle.region_store.specs.Joined.{joined, AreChanged}
 use Rattle.site_store.specs.Site.{Remembers, IsReady, AreHeld, Keeps, IsOpen, HasReign, HasRoomFor, AreOnBlocks, with_entry, count_of}
 use Rattle.site_store.proofs.OnBlocks.{on_same, on_more, part_plain}
 use Rattle.site_store.proofs.Waiting as waiting

@@ -17,7 +17,7 @@ use Rattle.site_defs.specs.Stands.{IsSite, Stands}
 use Rattle.site_defs.specs.OutsideBlocks.{IsOutsideOpening, HaveOutsideBlocks, whole}
 use Rattle.site_files.specs.Loading.{AreRead, last_of, next_cut}
 use Rattle.site_files.proofs.Kept.{image_read}
-use Rattle.site_regions.specs.Joined.{Joined, joined}
+use Rattle.region_store.specs.Joined.{Joined, joined}
 use Rattle.site_store.specs.declared.preparing.FoundFiles.{FoundFiles}
 use Rattle.site_store.specs.declared.preparing.StandingSite.{StandingSite}
 use Rattle.site_store.specs.declared.error.SiteError.{SiteError}
@@ -119,7 +119,7 @@ stood_in anew u w f k has opens none files told (journal, seq, is) =
         indexed = is.indexed;
         stand = is.stand;
         broken_is = is.broken_is;
-        without = λ no. subst (NoneIsWithout (records_of k journal)) count (none no journal (signs_say files (found_signs f) journal is.found.are_signs));
+        without = λ no. subst (NoneIsWithout (records_of k journal)) count (none no journal (signs_say files (length seq) (found_signs f) journal is.found.are_kept));
         blocks = subst (λ (m : ℕ). StandOn anew files (records_of k journal) m k.globals) count blocks;
         nodes = λ sound. nodes sound ∙ ap state all;
       },
@@ -183,7 +183,7 @@ pub first_needing : (u v : View) (f : FoundFiles) → HasFound f → WasFound u 
     → IfSome u.content (λ files. HaveFirstWithout files region)
 first_needing u v f has was region first =
     weaker_told u.content (Given v f) (λ files. HaveFirstWithout files region) was.told (λ files x.
-    let said = first x.0 (signs_say files (found_signs f) x.0 x.2.found.are_signs) in
+    let said = first x.0 (signs_say files (length x.1) (found_signs f) x.0 x.2.found.are_kept) in
     let count = found_count v f x.0 x.1 files has x.2 in (
       found_records f x.0,
       x.1,

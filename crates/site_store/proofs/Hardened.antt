@@ -30,7 +30,7 @@ use Rattle.site_defs.specs.Behind.{IsFrontLeft, IsSiteWith}
 use Rattle.site_defs.specs.Fronts.{with_sequence, IsFrontOf}
 use Rattle.site_defs.specs.Stands.{IsSite}
 use Rattle.site_store.specs.declared.site.OpenSite.{OpenSite}
-use Rattle.site_regions.specs.Joined.{joined}
+use Rattle.region_store.specs.Joined.{joined}
 use Rattle.site_store.specs.Site.{Remembers, IsReady, Keeps, IsOpen, IsSettled, AreOnBlocks, count_of}
 use Rattle.site_store.proofs.Remembered.{remembered_length}
 use Rattle.entry_index.specs.declared.index.EntryIndex.{EntryIndex}

@@ -12,9 +12,9 @@ use Rattle.journal_defs.specs.Numbers.{INSTANCE, database_file}
 use Rattle.region_journals.specs.Fronts.{IsNewestFile}
 use Rattle.region_epochs.specs.Taken.{HasSameNodes}
 use Rattle.region_store.specs.Region.{Standing, HoldsRegion, IsHeld, IsChanged}
-use Rattle.site_regions.specs.Joined.{Joined, IsSameJoined, AreChanged, region_at, no_region}
-use Rattle.site_regions.proofs.Lists.{there}
-use Rattle.site_regions.proofs.Making.{region_changed, region_there, changed_none}
+use Rattle.region_store.specs.Joined.{Joined, IsSameJoined, AreChanged, region_at, no_region}
+use Rattle.region_store.proofs.Lists.{there}
+use Rattle.region_store.proofs.Making.{region_changed, region_there, changed_none}
 use Rattle.site_store.specs.Site.{AreHeld, AreSynced}
 
 pub held_stays : (v w : View) (F : ℕ → Type 0) (n : ℕ) (j : Joined) → OthersStay F v w → ((r : ℕ) → r < n → F (database_file r) → ⊥) → AreHeld v n j → AreHeld w n j

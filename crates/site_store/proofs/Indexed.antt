@@ -16,9 +16,9 @@ use Rattle.journal_defs.specs.Sequence.{Placed, entry_with}
 use Rattle.journal_defs.specs.Stands.{in_generation}
 use Rattle.journal_defs.specs.Growth.{AreNumbered, placed}
 use Rattle.jnl_file.specs.Journal as journals
-use Rattle.jnl_index.specs.Places.{StandsAt}
-use Rattle.jnl_index.specs.Order.{size_of, bytes_in, IsAmong, AreLaid}
-use Rattle.jnl_index.proofs.Order.{bytes_append, bytes_own, older_bytes, spelled_size, laid_stands, laid_open, laid_shut, Older, Newer, older_or_newer}
+use Rattle.entry_index.specs.Places.{StandsAt}
+use Rattle.entry_index.specs.Order.{size_of, bytes_in, IsAmong, AreLaid}
+use Rattle.entry_index.proofs.Order.{bytes_append, bytes_own, older_bytes, spelled_size, laid_stands, laid_open, laid_shut, Older, Newer, older_or_newer}
 use Rattle.tp_commit.specs.Parts.{PartRecords, recorded}
 use Rattle.region_journals.specs.declared.journals.RegionJournal.{RegionJournal}
 use Rattle.region_journals.specs.Journals.{part_in, listed}
@@ -28,7 +28,7 @@ use Rattle.entry_index.specs.declared.index.EntryIndex.{EntryIndex}
 use Rattle.entry_index.specs.Parts.{InFiles, InJournals, IsPartAt}
 use Rattle.entry_index.specs.Indexes.{Indexes}
 use Rattle.entry_index.specs.Among.{IsIndexOf}
-use Rattle.entry_index.proofs.Laws.{row_more}
+use Rattle.entry_index.proofs.IndexLaws.{row_more}
 use Rattle.entry_index.proofs.AmongLaws.{part_moved, index_behind, index_stands}
 use Rattle.site_store.specs.declared.site.OpenSite.{OpenSite}
 use Rattle.site_defs.specs.Contents.{Contents}

@@ -12,8 +12,8 @@ use Rattle.journal_defs.specs.Numbers.{journal_file}
 use Rattle.journal_defs.specs.Sequence.{Placed}
 use Rattle.disk_defs.specs.Disk.{Files, View, Image}
 use Rattle.jnl_file.specs.Generations.{AreDurable}
-use Rattle.jnl_index.specs.Order.{StandUpTo}
-use Rattle.jnl_index.specs.Places.{StandsAt}
+use Rattle.entry_index.specs.Order.{StandUpTo}
+use Rattle.entry_index.specs.Places.{StandsAt}
 use Rattle.journal_laws.proofs.Runs as runs
 use Rattle.entry_index.specs.declared.index.EntryIndex.{EntryIndex}
 use Rattle.entry_index.specs.Among.{IsIndexOf}

@@ -33,7 +33,7 @@ use Rattle.site_defs.specs.Forward.{opened_as, MayOpenAs}
 use Rattle.site_defs.specs.Stands.{IsSite, HasLeft}
 use Rattle.site_store.specs.declared.site.OpenSite.{OpenSite}
 use Rattle.site_store.specs.Finding.{HasLayout}
-use Rattle.site_regions.specs.Joined.{joined}
+use Rattle.region_store.specs.Joined.{joined}
 use Rattle.site_store.specs.Site.{Remembers, AreHeld, IsReady, IsOpen, StandOn, WasOpened, WasOpenedFrom, count_of}
 use Rattle.site_store.specs.Opening.{MayBeOpenAs, MayBeOpenWithAs, EachStands, AreTextsDurable, AreDatabasesDurable}
 use Rattle.site_store.proofs.Indexing.{stand_images}
@@ -44,7 +44,7 @@ use Rattle.site_store.proofs.Alike.{image_sound, image_site}
 use Rattle.site_store.proofs.OpenedTo.{newly, newly_at, open_to}
 use Rattle.entry_index.specs.Found.{IsWhole}
 use Rattle.entry_index.specs.Among.{IsIndexOf}
-use Rattle.jnl_index.specs.Order.{StandUpTo}
+use Rattle.entry_index.specs.Order.{StandUpTo}
 
 -- what was opened is what any records of the files stand for
 pub opened_from : (o : Option Files) (v : View) (rs : List InstanceRecord) (last : ℕ → ℕ) (journal : ℕ → List Placed) (seq : Sequence) (s : OpenSite) → IfSome o (WasRead v rs last journal) → IsSequence (record { instance = rs; journal = journal }) seq

@@ -14,7 +14,6 @@ use Rattle.global_defs.specs.Entry.{Globals, Transaction}
 use Rattle.journal_defs.specs.Numbers.{journal_file, database_file}
 use Rattle.journal_defs.specs.Journal.{JournalRecord, Pblk, Part, Before}
 use Rattle.journal_defs.specs.Instance.{InstanceRecord, generation, regions}
-use Rattle.journal_defs.specs.Directory.{patterns}
 use Rattle.journal_defs.specs.Surviving.{reigns}
 use Rattle.journal_defs.specs.Sequence.{Placed, Records}
 use Rattle.journal_defs.specs.Epochs.{Chosen, chosen, block_of, NeedsForward}
@@ -42,9 +41,9 @@ use Rattle.entry_index.specs.declared.index.EntryIndex.{EntryIndex}
 use Rattle.entry_index.specs.Found.{entry_count, IsWhole}
 use Rattle.entry_index.specs.Among.{IsIndexOf}
 use Rattle.entry_index.proofs.AmongLaws.{index_behind}
-use Rattle.site_regions.specs.Joined.{IsSameElsewhere, region_at, no_region}
-use Rattle.site_regions.proofs.Lists.{there}
-use Rattle.site_regions.proofs.Making.{region_there}
+use Rattle.region_store.specs.Joined.{IsSameElsewhere, region_at, no_region}
+use Rattle.region_store.proofs.Lists.{there}
+use Rattle.region_store.proofs.Making.{region_there}
 use Rattle.site_defs.specs.Contents.{Contents, NO_LEFTOVER}
 use Rattle.site_defs.specs.Fronts.{with_sequence}
 use Rattle.site_defs.specs.Stands.{IsSite, HasLeft}

@@ -31,10 +31,10 @@ use Rattle.region_epochs.specs.Kept.{IsEpochFront, Images, WithEpoch, HasMore, I
 use Rattle.region_epochs.specs.Taken.{IsTaken, HasSameNodes, mark_of}
 use Rattle.block_laws.specs.Fronts as fronts
 use Rattle.region_store.specs.Region.{Standing}
-use Rattle.site_regions.specs.Joined.{Joined, AreJoined, region_at}
-use Rattle.site_regions.proofs.Lists.{there}
-use Rattle.site_regions.proofs.Making.{region_there}
-use Rattle.site_regions.proofs.Parts.{part_at, joined_is}
+use Rattle.region_store.specs.Joined.{Joined, AreJoined, region_at}
+use Rattle.region_store.proofs.Lists.{there}
+use Rattle.region_store.proofs.Making.{region_there}
+use Rattle.region_store.proofs.Parts.{part_at, joined_is}
 use Rattle.site_defs.specs.Contents as site
 use Rattle.site_defs.specs.Contents.{Contents, bare}
 use Rattle.site_defs.specs.Epochs.{marked, with_epochs, MayMark, MayMarkLeft}

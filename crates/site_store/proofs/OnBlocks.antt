@@ -17,11 +17,11 @@ use Rattle.journal_laws.proofs.Targets as targets
 use Rattle.journal_laws.proofs.EveryTarget.{goes_on}
 use Rattle.before_image.proofs.Marks.{knows_other}
 use Rattle.region_store.specs.Region.{Standing, HoldsRegion, IsHeld}
-use Rattle.site_regions.specs.Joined.{Joined, AreChanged, region_at}
-use Rattle.site_regions.proofs.Making.{region_changed}
+use Rattle.region_store.specs.Joined.{Joined, AreChanged, region_at}
+use Rattle.region_store.proofs.Making.{region_changed}
 use Rattle.disk_defs.proofs.Told.{weaker_told, both_weak, told_at}
 use Rattle.global_defs.specs.Entry.{Sequence}
-use Rattle.jnl_index.specs.declared.placed.PlacedSign.{PlacedSign}
+use Rattle.entry_index.specs.declared.placed.PlacedSign.{PlacedSign}
 use Rattle.entry_index.specs.declared.index.EntryIndex.{EntryIndex}
 use Rattle.entry_index.specs.Found.{AreFound}
 use Rattle.site_defs.specs.OutsideBlocks.{gone_back}

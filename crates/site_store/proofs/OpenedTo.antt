@@ -32,7 +32,7 @@ use Rattle.site_defs.specs.Fronts.{with_sequence}
 use Rattle.site_defs.specs.Forward.{begun_mode, begun_as}
 use Rattle.site_defs.specs.Behind.{parts_of_each}
 use Rattle.site_defs.specs.Stands.{IsSite}
-use Rattle.site_regions.specs.Joined.{joined, region_at}
+use Rattle.region_store.specs.Joined.{joined, region_at}
 use Rattle.site_store.specs.declared.site.OpenSite.{OpenSite}
 use Rattle.site_store.specs.Site.{Remembers, Keeps, IsOpen, AreOnBlocks, AreOnFiles, StandOn, AreSynced, count_of}
 use Rattle.site_store.proofs.OnBlocks.{IsPlain, anew_or_not, held_same, on_same, on_more, on_chosen}
@@ -40,7 +40,7 @@ use Rattle.site_store.proofs.Drawn.{S, C, cut_at, DrawsTo, newest_is, same_regio
 use Rattle.site_store.proofs.Parts.{no_entry_no_part}
 use Rattle.site_store.proofs.Waiting.{none_more, none_wait}
 use Rattle.entry_index.specs.Among.{IsIndexOf}
-use Rattle.jnl_index.specs.Order.{StandUpTo}
+use Rattle.entry_index.specs.Order.{StandUpTo}
 use Rattle.entry_index.proofs.AmongLaws.{index_behind}
 use Rattle.journal_defs.specs.Surviving.{reigns}
 use Rattle.site_store.proofs.Indexing.{index_cut, stand_same}

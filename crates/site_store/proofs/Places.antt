@@ -12,7 +12,7 @@ use Rattle.entry_index.specs.declared.place.PartPlace.{PartPlace}
 use Rattle.entry_index.specs.Among.{IsIndexOf}
 use Rattle.entry_index.specs.Found.{entry_count, IsWhole}
 use Rattle.entry_index.specs.Parts.{InJournals}
-use Rattle.entry_index.proofs.Laws.{first_rows}
+use Rattle.entry_index.proofs.IndexLaws.{first_rows}
 use Rattle.entry_index.proofs.AmongLaws.{counted, whole_rows}
 use Rattle.site_store.specs.Committing.{AddsPlaces, IsSameIndex}
 

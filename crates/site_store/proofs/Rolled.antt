@@ -26,7 +26,7 @@ use Rattle.site_defs.specs.Stands.{losts_of, IsSite, HasLeft}
 use Rattle.site_files.specs.Loading.{MayBeOpened, AreRead, HasDrawn, MayDraw, next_cut, next_pini}
 use Rattle.site_files.proofs.Keeping as keeping
 use Rattle.site_files.proofs.LostFiles.{lost_changed}
-use Rattle.site_regions.specs.Joined.{joined}
+use Rattle.region_store.specs.Joined.{joined}
 use Rattle.site_store.specs.declared.site.OpenSite.{OpenSite}
 use Rattle.site_store.specs.Site.{IsOpen, AreOnBlocks, AreSynced, count_of}
 use Rattle.site_store.proofs.Drawn.{S, text, cut_at, DrawsTo, site_read, site_drawn, left_drawn, standing_may}
@@ -34,7 +34,7 @@ use Rattle.site_store.proofs.Images.{losts_same, texts_same, torn_same}
 use Rattle.site_store.proofs.OpenedTo as opened
 use Rattle.site_store.proofs.OpenedTo.{newly, one_image}
 use Rattle.entry_index.specs.Among.{IsIndexOf}
-use Rattle.jnl_index.specs.Order.{StandUpTo}
+use Rattle.entry_index.specs.Order.{StandUpTo}
 use Rattle.journal_defs.specs.Surviving.{reigns}
 
 module _ (rs : List InstanceRecord) (last : ℕ → ℕ) (journal : ℕ → List Placed) (seq : Sequence) (form : MayBeOpened rs last) (sequence : IsSequence (record { instance = rs; journal = journal }) seq)

@@ -13,7 +13,7 @@ use Rattle.site_defs.specs.Contents.{Contents}
 use Rattle.site_defs.specs.Fronts.{with_sequence}
 use Rattle.site_defs.specs.Stands.{IsSite}
 use Rattle.site_store.specs.declared.site.OpenSite.{OpenSite}
-use Rattle.site_regions.specs.Joined.{AreChanged}
+use Rattle.region_store.specs.Joined.{AreChanged}
 use Rattle.site_store.specs.Committing.{IsSameIndex}
 use Rattle.site_store.specs.Site.{Keeps, IsOpen}
 use Rattle.site_store.proofs.OnBlocks.{on_changed}

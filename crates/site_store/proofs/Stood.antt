@@ -21,7 +21,7 @@ use Rattle.site_defs.specs.Forward.{opened_as}
 use Rattle.site_store.specs.declared.preparing.StandingSite.{StandingSite}
 use Rattle.site_store.specs.declared.site.OpenSite.{OpenSite}
 use Rattle.site_store.specs.Finding.{HasLayout}
-use Rattle.site_regions.specs.Joined.{joined}
+use Rattle.region_store.specs.Joined.{joined}
 use Rattle.site_store.specs.Opening.{EachStands, AreTextsDurable, AreDatabasesDurable}
 use Rattle.site_store.specs.Needing.{NoneIsWithout}
 use Rattle.site_store.specs.Site.{Remembers, AreHeld, IsReady, IsOpen, StandOn, WasOpened, WasOpenedFrom, count_of}
@@ -33,7 +33,7 @@ use Rattle.site_store.proofs.OpenedTo.{newly}
 use Rattle.entry_index.specs.Found.{entry_count, IsWhole}
 use Rattle.entry_index.specs.Among.{IsIndexOf}
 use Rattle.entry_index.specs.declared.index.EntryIndex.{EntryIndex}
-use Rattle.jnl_index.specs.Order.{StandUpTo}
+use Rattle.entry_index.specs.Order.{StandUpTo}
 use Rattle.journal_defs.specs.Surviving.{reigns}
 
 all_three : (o : Option Files) (A B C : Files → Type 0) → IfSome o A → IfSome o B → IfSome o C → IfSome o (λ f. A f × B f × C f)

@@ -28,7 +28,7 @@ use Rattle.site_store.specs.declared.site.OpenSite.{OpenSite}
 use Rattle.site_store.proofs.HeldRegions.{held_read, synced_stays}
 use Rattle.disk_defs.proofs.Frames.{others_read}
 use Rattle.site_store.specs.Site.{IsReady, Keeps, IsOpen, AreOnBlocks}
-use Rattle.jnl_index.specs.Order.{StandUpTo}
+use Rattle.entry_index.specs.Order.{StandUpTo}
 
 records_read : (v w : View) (j : Journal) (s : Recorded) (a : Files) → Reads v w → HoldsRecords v j s a → HoldsRecords w j s a
 records_read v w j s a r h = record {

@@ -10,7 +10,7 @@ use Rattle.journal_defs.specs.Fit.{region_of_update}
 use Rattle.tp_commit.specs.Parts.{PartRecords, recorded}
 use Rattle.region_journals.specs.Fronts.{IsNewestFile}
 use Rattle.region_journals.specs.Journals.{KeepsJournals, part_in, listed}
-use Rattle.site_regions.specs.Joined.{joined, AreChanged}
+use Rattle.region_store.specs.Joined.{joined, AreChanged}
 use Rattle.site_store.specs.declared.site.OpenSite.{OpenSite}
 use Rattle.site_store.specs.Site.{count_of, IsReady, IsOpen}
 use Rattle.site_defs.specs.Contents.{Contents, NO_LEFTOVER}

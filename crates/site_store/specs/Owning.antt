@@ -1,5 +1,5 @@
 -- An open site that owns its disk.
-use Rattle.std.specs.Prelude.{◌≡◌, ◌⊎◌, ℕ, Bool, length, Some, None, Result, Ok, Err}
+use Rattle.std.specs.Prelude.{◌≡◌, ◌⊎◌, ℕ, Bool, Some, None, Result, Ok, Err}
 use Rattle.disk_defs.specs.Disk.{View}
 use Rattle.gvn_model.specs.declared.history.History.{History}
 use Rattle.journal_defs.specs.Surviving.{reigns}

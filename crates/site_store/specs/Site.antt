@@ -27,12 +27,12 @@ use Rattle.instance_file.specs.Instance as instances
 use Rattle.region_journals.specs.Journals.{AreReady, KeepsJournals}
 use Rattle.region_journals.specs.Fronts.{AreInside}
 use Rattle.region_store.specs.Region.{Standing, HoldsRegion, IsHeld}
-use Rattle.site_regions.specs.Joined.{Joined, joined, region_at}
+use Rattle.region_store.specs.Joined.{Joined, joined, region_at}
 use Rattle.site_defs.specs.Contents.{Contents}
 use Rattle.site_defs.specs.Fronts.{with_sequence}
 use Rattle.site_defs.specs.Stands.{IsSite}
 use Rattle.site_defs.specs.Behind.{parts_of_each}
-use Rattle.jnl_index.specs.Order.{StandUpTo}
+use Rattle.entry_index.specs.Order.{StandUpTo}
 use Rattle.entry_index.specs.Found.{entry_count, IsWhole}
 use Rattle.entry_index.specs.Among.{IsIndexOf}
 use Rattle.site_store.specs.Finding.{HasLayout}

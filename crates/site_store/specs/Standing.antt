@@ -8,12 +8,12 @@ use Rattle.journal_defs.specs.Instance.{generation, regions, site_name}
 use Rattle.journal_defs.specs.Surviving.{reigns}
 use Rattle.journal_defs.specs.Sequence.{Placed, Records, IsSequence}
 use Rattle.journal_defs.specs.Fit.{IsSoundImage}
-use Rattle.jnl_index.specs.declared.placed.PlacedSign.{PlacedSign}
-use Rattle.jnl_index.specs.Order.{StandUpTo}
+use Rattle.entry_index.specs.declared.placed.PlacedSign.{PlacedSign}
+use Rattle.entry_index.specs.Order.{StandUpTo}
 use Rattle.entry_index.specs.Found.{AreFound, IsWhole, entry_count}
 use Rattle.entry_index.specs.Among.{IsIndexOf}
 use Rattle.site_files.specs.Loading.{MayBeOpened, WasRead, last_of, next_cut}
-use Rattle.site_regions.specs.Joined.{Joined, joined}
+use Rattle.region_store.specs.Joined.{Joined, joined}
 use Rattle.site_store.specs.declared.preparing.FoundFiles.{FoundFiles}
 use Rattle.site_store.specs.declared.preparing.StandingSite.{StandingSite}
 use Rattle.site_store.specs.Finding.{HasLayout, mapping_of}

@@ -4,7 +4,7 @@ ghost use Rattle.global_defs.specs.Entry.{apply};
 ghost use Rattle.global_defs.specs.Fields.{IsTransaction};
 ghost use Rattle.gvn_model.specs.Entries.{transaction_value};
 ghost use Rattle.entry_index.specs.Parts as places;
-ghost use Rattle.site_regions.specs.Joined.{joined, AreChanged};
+ghost use Rattle.region_store.specs.Joined.{joined, AreChanged};
 ghost use Rattle.site_store.specs.Committing.{IsSameMemory, IsSameSite, AddsPlaces, next_place};
 
 use crate::site::OpenSite;

@@ -1,6 +1,6 @@
 //! Bringing a site to an epoch.
-ghost use Rattle.std.specs.Prelude.{◌≡◌, ◌⊎◌, ◌≤◌, ℕ, Bool, true, length, IfSome, IsOk, OnOk, OnErr, IsErrOf, IsSome};
-ghost use Rattle.disk_defs.specs.Disk.{Files, Image, AtEachMoment, Rose};
+ghost use Rattle.std.specs.Prelude.{◌≡◌, ◌⊎◌, ℕ, Bool, true, length, IfSome, IsOk, OnOk, OnErr, IsErrOf, IsSome};
+ghost use Rattle.disk_defs.specs.Disk.{Files, Image, AtEachMoment, MayFail};
 ghost use Rattle.disk_defs.specs.Frames.{OthersStay};
 ghost use Rattle.site_defs.specs.Contents.{Contents, Standing, bare};
 ghost use Rattle.site_defs.specs.Epochs.{marked, MayMark, MayMarkLeft};
@@ -41,9 +41,7 @@ impl OpenSite {
         ensures entries { self.new.entries ≡ self.old.entries }
         ensures left { (c : Contents) → IsOpen (D.disk disk.old) true c (length c.sequence) self.old → AtEachMoment (D.disk disk.old) (D.disk disk.new) (λ f. IsSiteWith f (bare c)) }
         ensures frame { OthersStay (IsOwnJournal self.old) (D.disk disk.old) (D.disk disk.new) }
-        ensures later { (D.disk disk.old).faults ≤ (D.disk disk.new).faults }
-        ensures count { (fault : ℕ) → IsErrOf result (SiteError.Failed fault) → fault ≡ (D.disk disk.new).faults }
-        ensures cause { (fault : ℕ) → IsErrOf result (SiteError.Failed fault) → Rose (D.disk disk.old).faults (D.disk disk.new).faults }
+        ensures faults { MayFail (D.disk disk.old).faults (D.disk disk.new).faults (λ fault. IsErrOf result (SiteError.Failed fault)) }
         ensures failed { OnErr result ((fault : ℕ) × IsErrOf result (SiteError.Failed fault)) }
     {
         match self.journals.harden(disk) {
@@ -66,9 +64,7 @@ impl OpenSite {
         ensures left { (c : Contents) → IsSettled (D.disk disk.old) true c self.old → AtEachMoment (D.disk disk.old) (D.disk disk.new) (λ f. (o : Standing) × MayMarkLeft (bare c) o × IsSiteWith f o) }
         ensures still_told { IsSome (D.disk disk.old).content → IsSome (D.disk disk.new).content }
         ensures simulated { (D.disk disk.new).simulated ≡ (D.disk disk.old).simulated }
-        ensures later { (D.disk disk.old).faults ≤ (D.disk disk.new).faults }
-        ensures count { (fault : ℕ) → IsErrOf result (SiteError.Failed fault) → fault ≡ (D.disk disk.new).faults }
-        ensures cause { (fault : ℕ) → IsErrOf result (SiteError.Failed fault) → Rose (D.disk disk.old).faults (D.disk disk.new).faults }
+        ensures faults { MayFail (D.disk disk.old).faults (D.disk disk.new).faults (λ fault. IsErrOf result (SiteError.Failed fault)) }
         ensures causes { OnErr result (((fault : ℕ) × IsErrOf result (SiteError.Failed fault)) ⊎ IsErrOf result SiteError.NoMemory) }
     {
         let _ = self.globals.count();
@@ -112,9 +108,7 @@ impl OpenSite {
         ensures stands { (c : Contents) → IsOpen (D.disk disk.old) true c (length c.sequence) self.old → IfSome (D.disk disk.new).content (λ f. (o : Contents) × MayMark c o × IsSite f o) }
         ensures still_told { IsSome (D.disk disk.old).content → IsSome (D.disk disk.new).content }
         ensures simulated { (D.disk disk.new).simulated ≡ (D.disk disk.old).simulated }
-        ensures later { (D.disk disk.old).faults ≤ (D.disk disk.new).faults }
-        ensures count { (fault : ℕ) → IsErrOf result (SiteError.Failed fault) → fault ≡ (D.disk disk.new).faults }
-        ensures cause { (fault : ℕ) → IsErrOf result (SiteError.Failed fault) → Rose (D.disk disk.old).faults (D.disk disk.new).faults }
+        ensures faults { MayFail (D.disk disk.old).faults (D.disk disk.new).faults (λ fault. IsErrOf result (SiteError.Failed fault)) }
         ensures causes { OnErr result (((fault : ℕ) × IsErrOf result (SiteError.Failed fault)) ⊎ IsErrOf result SiteError.NoMemory) }
     {
         self.settle(disk)?;

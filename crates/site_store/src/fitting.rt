@@ -1,12 +1,12 @@
 //! Whether there is room for a transaction's nodes.
 ghost use Rattle.std.specs.Prelude.{◌≡◌, ◌⊎◌, ◌≤◌, ℕ, length, OnOk, OnErr, IsErrOf};
-ghost use Rattle.site_regions.specs.Joined.{joined};
+ghost use Rattle.region_store.specs.Joined.{joined};
 ghost use Rattle.site_store.specs.Site.{HasRoomFor};
 
 use crate::error::SiteError;
 use gvn_globals::Overlay;
 use gvn_model::Updates;
-use site_regions::Regions;
+use region_store::Regions;
 use std::alloc::Global;
 
 /// How many nodes may stand.

@@ -1,6 +1,6 @@
 //! The history of a site that isn't open.
-ghost use Rattle.std.specs.Prelude.{◌≡◌, ◌⊎◌, ◌≤◌, ℕ, nat_le, filter, map, IfOk, IfSome, OnErr, IsErrOf};
-ghost use Rattle.disk_defs.specs.Disk.{Image, AtEachMoment, Rose};
+ghost use Rattle.std.specs.Prelude.{◌≡◌, ◌⊎◌, ℕ, nat_le, filter, map, IfOk, IfSome, OnErr, IsErrOf};
+ghost use Rattle.disk_defs.specs.Disk.{Image, AtEachMoment, MayFail};
 ghost use Rattle.global_defs.specs.Entry.{Sequence};
 ghost use Rattle.gvn_model.specs.Reigns.{reign_value};
 ghost use Rattle.journal_defs.specs.Sequence.{Records, IsSequence};
@@ -14,7 +14,7 @@ use crate::error::SiteError;
 use gvn_key::NoMemory;
 use gvn_model::{History, Reign, Reigns};
 use repl_disk::Disk;
-use site_files::{count_entries, read_records};
+use site_files::{ReadEntries, read_records};
 use std::alloc::Global;
 
 /// Those of these reigns that begin by that number.
@@ -45,13 +45,12 @@ pub fn history_of<D: Disk>(alloc: Global, disk: &mut D) -> Result<History, SiteE
     ensures content { (D.disk disk.new).content ≡ (D.disk disk.old).content }
     ensures any_moment { AtEachMoment (D.disk disk.old) (D.disk disk.new) (Image (D.disk disk.old)) }
     ensures simulated { (D.disk disk.new).simulated ≡ (D.disk disk.old).simulated }
-    ensures later { (D.disk disk.old).faults ≤ (D.disk disk.new).faults }
-    ensures count { (fault : ℕ) → IsErrOf result (SiteError.Failed fault) → fault ≡ (D.disk disk.new).faults }
-    ensures cause { (fault : ℕ) → IsErrOf result (SiteError.Failed fault) → Rose (D.disk disk.old).faults (D.disk disk.new).faults }
+    ensures faults { MayFail (D.disk disk.old).faults (D.disk disk.new).faults (λ fault. IsErrOf result (SiteError.Failed fault)) }
     ensures causes { OnErr result (((fault : ℕ) × IsErrOf result (SiteError.Failed fault)) ⊎ ((file : ℕ) × (offset : ℕ) × IsErrOf result (SiteError.NotAFile file offset)) ⊎ IsErrOf result SiteError.NoMemory) }
 {
-    let read = read_records(alloc, disk)?;
-    let length = count_entries(alloc, disk, &read)?;
+    let found = read_records(alloc, disk)?;
+    let ReadEntries { read, entries } = found;
+    let length = entries.len();
     let reigns = reigns_by(alloc, read.log.history.as_slice(), length)?;
     Ok(History { length, reigns })
 }

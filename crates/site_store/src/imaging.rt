@@ -1,6 +1,6 @@
 //! The images of blocks that an entry is about to change.
-ghost use Rattle.std.specs.Prelude.{◌≡◌, ◌⊎◌, ◌≤◌, ◌<◌, ℕ, length, OnOk, OnErr, IsErrOf};
-ghost use Rattle.disk_defs.specs.Disk.{Rose};
+ghost use Rattle.std.specs.Prelude.{◌⊎◌, ◌<◌, ℕ, length, OnOk, OnErr, IsErrOf};
+ghost use Rattle.disk_defs.specs.Disk.{MayFail};
 ghost use Rattle.disk_defs.specs.Frames.{OthersStay};
 ghost use Rattle.site_store.specs.Committing.{HasLogged, AreLoggingMoments, IsSameSite, IsOwnJournal};
 ghost use Rattle.site_store.specs.Site.{IsReady};
@@ -30,9 +30,7 @@ impl OpenSite {
         ensures same { IsSameSite self.old self.new }
         ensures moments { AreLoggingMoments (D.disk disk.old) (D.disk disk.new) self.old }
         ensures frame { OthersStay (IsOwnJournal self.old) (D.disk disk.old) (D.disk disk.new) }
-        ensures later { (D.disk disk.old).faults ≤ (D.disk disk.new).faults }
-        ensures count { (fault : ℕ) → IsErrOf result (SiteError.Failed fault) → fault ≡ (D.disk disk.new).faults }
-        ensures cause { (fault : ℕ) → IsErrOf result (SiteError.Failed fault) → Rose (D.disk disk.old).faults (D.disk disk.new).faults }
+        ensures faults { MayFail (D.disk disk.old).faults (D.disk disk.new).faults (λ fault. IsErrOf result (SiteError.Failed fault)) }
         ensures causes { OnErr result (((fault : ℕ) × IsErrOf result (SiteError.Failed fault)) ⊎ IsErrOf result SiteError.NoMemory) }
     {
         let logged = log_first_image(
@@ -61,9 +59,7 @@ impl OpenSite {
         ensures same { IsSameSite self.old self.new }
         ensures moments { AreLoggingMoments (D.disk disk.old) (D.disk disk.new) self.old }
         ensures frame { OthersStay (IsOwnJournal self.old) (D.disk disk.old) (D.disk disk.new) }
-        ensures later { (D.disk disk.old).faults ≤ (D.disk disk.new).faults }
-        ensures count { (fault : ℕ) → IsErrOf result (SiteError.Failed fault) → fault ≡ (D.disk disk.new).faults }
-        ensures cause { (fault : ℕ) → IsErrOf result (SiteError.Failed fault) → Rose (D.disk disk.old).faults (D.disk disk.new).faults }
+        ensures faults { MayFail (D.disk disk.old).faults (D.disk disk.new).faults (λ fault. IsErrOf result (SiteError.Failed fault)) }
         ensures causes { OnErr result (((fault : ℕ) × IsErrOf result (SiteError.Failed fault)) ⊎ IsErrOf result SiteError.NoMemory) }
     {
         for block in blocks {
@@ -85,9 +81,7 @@ impl OpenSite {
         ensures same { IsSameSite self.old self.new }
         ensures moments { AreLoggingMoments (D.disk disk.old) (D.disk disk.new) self.old }
         ensures frame { OthersStay (IsOwnJournal self.old) (D.disk disk.old) (D.disk disk.new) }
-        ensures later { (D.disk disk.old).faults ≤ (D.disk disk.new).faults }
-        ensures count { (fault : ℕ) → IsErrOf result (SiteError.Failed fault) → fault ≡ (D.disk disk.new).faults }
-        ensures cause { (fault : ℕ) → IsErrOf result (SiteError.Failed fault) → Rose (D.disk disk.old).faults (D.disk disk.new).faults }
+        ensures faults { MayFail (D.disk disk.old).faults (D.disk disk.new).faults (λ fault. IsErrOf result (SiteError.Failed fault)) }
         ensures causes { OnErr result (((fault : ℕ) × IsErrOf result (SiteError.Failed fault)) ⊎ IsErrOf result SiteError.NoMemory) }
     {
         let region = self.globals.number_of(update);
@@ -108,9 +102,7 @@ impl OpenSite {
         ensures same { IsSameSite self.old self.new }
         ensures moments { AreLoggingMoments (D.disk disk.old) (D.disk disk.new) self.old }
         ensures frame { OthersStay (IsOwnJournal self.old) (D.disk disk.old) (D.disk disk.new) }
-        ensures later { (D.disk disk.old).faults ≤ (D.disk disk.new).faults }
-        ensures count { (fault : ℕ) → IsErrOf result (SiteError.Failed fault) → fault ≡ (D.disk disk.new).faults }
-        ensures cause { (fault : ℕ) → IsErrOf result (SiteError.Failed fault) → Rose (D.disk disk.old).faults (D.disk disk.new).faults }
+        ensures faults { MayFail (D.disk disk.old).faults (D.disk disk.new).faults (λ fault. IsErrOf result (SiteError.Failed fault)) }
         ensures causes { OnErr result (((fault : ℕ) × IsErrOf result (SiteError.Failed fault)) ⊎ IsErrOf result SiteError.NoMemory) }
     {
         for update in updates {

@@ -3,7 +3,7 @@ ghost use Rattle.std.specs.Prelude.{◌≡◌, ◌⊎◌, ◌≤◌, ◌<◌, �
 ghost use Rattle.std.specs.Result.{IsOk};
 ghost use Rattle.std.specs.Option.{option_copied};
 ghost use Rattle.std.specs.FinMap as globals;
-ghost use Rattle.disk_defs.specs.Disk.{Files, Image, AtEachMoment, Reads, Rose};
+ghost use Rattle.disk_defs.specs.Disk.{Files, Image, AtEachMoment, Reads, MayFail};
 ghost use Rattle.disk_defs.specs.Gates.{records};
 ghost use Rattle.global_defs.specs.Prefix.{IsPrefix};
 ghost use Rattle.global_defs.specs.Key.{sub_of};
@@ -29,7 +29,7 @@ ghost use Rattle.site_defs.specs.Fronts.{with_sequence, IsFrontOf};
 ghost use Rattle.site_defs.specs.Epochs.{marked, MayMark};
 ghost use Rattle.site_defs.specs.Stands.{IsBlank, IsSite, HasLeft};
 ghost use Rattle.site_defs.specs.OutsideBlocks.{IsOutsideOpening};
-ghost use Rattle.site_regions.specs.Joined.{joined};
+ghost use Rattle.region_store.specs.Joined.{joined};
 ghost use Rattle.site_store.specs.Needing.{NoneIsWithout, NoneNeeds, HaveFirstWithout};
 ghost use Rattle.site_store.specs.Refusing.{IsUnwritten};
 ghost use Rattle.site_store.specs.Site.{Remembers, WasOpened, WasOpenedFrom, HasReign, HasRoomFor, with_entry, count_of};
@@ -102,9 +102,7 @@ impl<D: Disk> Site<D> {
         ensures stands { IfSome (D.disk disk.old).content (λ files. IsBlank files → IfSome (D.disk disk.new).content (λ now. IsBlank now ⊎ IsSite now (made name.now regions.now))) }
         ensures still_told { IsSome (D.disk disk.old).content → IsSome (D.disk disk.new).content }
         ensures simulated { (D.disk disk.new).simulated ≡ (D.disk disk.old).simulated }
-        ensures later { (D.disk disk.old).faults ≤ (D.disk disk.new).faults }
-        ensures count { (fault : ℕ) → IsErrOf result (SiteError.Failed fault) → fault ≡ (D.disk disk.new).faults }
-        ensures cause { (fault : ℕ) → IsErrOf result (SiteError.Failed fault) → Rose (D.disk disk.old).faults (D.disk disk.new).faults }
+        ensures faults { MayFail (D.disk disk.old).faults (D.disk disk.new).faults (λ fault. IsErrOf result (SiteError.Failed fault)) }
         ensures other_errors { (file : ℕ) (offset : ℕ) → IsErrOf result (SiteError.NotAFile file offset) → ⊥ }
         ensures no_stop { (fault : ℕ) → IsErrOf result (SiteError.Stopped fault) → ⊥ }
     {
@@ -140,9 +138,7 @@ impl<D: Disk> Site<D> {
         ensures still_told { IsSome (D.disk disk).content → IsSome (D.disk (disk_left result)).content }
         ensures stands { IfSome (D.disk disk).content (λ files. (c : Contents) (left : Leftover) → IsSite files c → HasLeft files c left → IfSome (D.disk (disk_left result)).content (λ now. (o : Contents) × MayOpen left.broken c o × IsSite now o)) }
         ensures simulated { (D.disk (disk_left result)).simulated ≡ (D.disk disk).simulated }
-        ensures later { (D.disk disk).faults ≤ (D.disk (disk_left result)).faults }
-        ensures count { (fault : ℕ) → FailsWith result (SiteError.Failed fault) → fault ≡ (D.disk (disk_left result)).faults }
-        ensures cause { (fault : ℕ) → FailsWith result (SiteError.Failed fault) → Rose (D.disk disk).faults (D.disk (disk_left result)).faults }
+        ensures faults { MayFail (D.disk disk).faults (D.disk (disk_left result)).faults (λ fault. FailsWith result (SiteError.Failed fault)) }
         ensures other_errors { FailsWith result SiteError.SeqLimit → ⊥ }
         ensures no_full { (nodes : ℕ) → FailsWith result (SiteError.Full nodes) → ⊥ }
         ensures no_reign_limit { FailsWith result SiteError.ReignLimit → ⊥ }
@@ -229,9 +225,7 @@ impl<D: Disk> Site<D> {
         ensures stands { (c : Contents) → IsOpenSite D.disk true c (length c.sequence) self.old → IfSome (D.disk self.new.disk).content (λ f. IsSite f c ⊎ IsSite f (with_reign (site_name c.instance) c)) }
         ensures still_told { IsSome (D.disk self.old.disk).content → IsSome (D.disk self.new.disk).content }
         ensures simulated { (D.disk self.new.disk).simulated ≡ (D.disk self.old.disk).simulated }
-        ensures later { (D.disk self.old.disk).faults ≤ (D.disk self.new.disk).faults }
-        ensures count { (fault : ℕ) → IsErrOf result (SiteError.Failed fault) → fault ≡ (D.disk self.new.disk).faults }
-        ensures cause { (fault : ℕ) → IsErrOf result (SiteError.Failed fault) → Rose (D.disk self.old.disk).faults (D.disk self.new.disk).faults }
+        ensures faults { MayFail (D.disk self.old.disk).faults (D.disk self.new.disk).faults (λ fault. IsErrOf result (SiteError.Failed fault)) }
         ensures causes { OnErr result (IsErrOf result SiteError.ReignLimit ⊎ ((fault : ℕ) × IsErrOf result (SiteError.Failed fault)) ⊎ ((fault : ℕ) × IsErrOf result (SiteError.Stopped fault)) ⊎ IsErrOf result SiteError.NoMemory) }
         ensures stops { (fault : ℕ) → IsErrOf result (SiteError.Failed fault) → HasStopped fault self.new }
         ensures stopped { (fault : ℕ) → HasStopped fault self.old → IsErrOf result (SiteError.Stopped fault) }
@@ -289,9 +283,7 @@ impl<D: Disk> Site<D> {
         ensures stands { (c : Contents) (h : ℕ) → IsOpenSite D.disk true c h self.old → IfSome (D.disk self.new.disk).content (λ f. IsSite f (with_sequence c (take h c.sequence))) }
         ensures still_told { IsSome (D.disk self.old.disk).content → IsSome (D.disk self.new.disk).content }
         ensures simulated { (D.disk self.new.disk).simulated ≡ (D.disk self.old.disk).simulated }
-        ensures later { (D.disk self.old.disk).faults ≤ (D.disk self.new.disk).faults }
-        ensures count { (fault : ℕ) → IsErrOf result (SiteError.Failed fault) → fault ≡ (D.disk self.new.disk).faults }
-        ensures cause { (fault : ℕ) → IsErrOf result (SiteError.Failed fault) → Rose (D.disk self.old.disk).faults (D.disk self.new.disk).faults }
+        ensures faults { MayFail (D.disk self.old.disk).faults (D.disk self.new.disk).faults (λ fault. IsErrOf result (SiteError.Failed fault)) }
         ensures no_other { IsErrOf result SiteError.GenLimit ⊎ IsErrOf result SiteError.ReignLimit ⊎ ((region : ℕ) × IsErrOf result (SiteError.NeedForward region)) ⊎ ((file : ℕ) × (offset : ℕ) × IsErrOf result (SiteError.NotAFile file offset)) → ⊥ }
         ensures stops { (fault : ℕ) → IsErrOf result (SiteError.Failed fault) → HasStopped fault self.new }
         ensures stopped { (fault : ℕ) → HasStopped fault self.old → IsErrOf result (SiteError.Stopped fault) }
@@ -333,9 +325,7 @@ impl<D: Disk> Site<D> {
         ensures stands { (c : Contents) (h : ℕ) → IsOpenSite D.disk true c h self.old → IfSome (D.disk self.new.disk).content (λ f. (o : Contents) × IsFrontOf c.sequence h c o × IsSite f o) }
         ensures still_told { IsSome (D.disk self.old.disk).content → IsSome (D.disk self.new.disk).content }
         ensures simulated { (D.disk self.new.disk).simulated ≡ (D.disk self.old.disk).simulated }
-        ensures later { (D.disk self.old.disk).faults ≤ (D.disk self.new.disk).faults }
-        ensures count { (fault : ℕ) → IsErrOf result (SiteError.Failed fault) → fault ≡ (D.disk self.new.disk).faults }
-        ensures cause { (fault : ℕ) → IsErrOf result (SiteError.Failed fault) → Rose (D.disk self.old.disk).faults (D.disk self.new.disk).faults }
+        ensures faults { MayFail (D.disk self.old.disk).faults (D.disk self.new.disk).faults (λ fault. IsErrOf result (SiteError.Failed fault)) }
         ensures causes { OnErr result (((fault : ℕ) × IsErrOf result (SiteError.Failed fault)) ⊎ ((fault : ℕ) × IsErrOf result (SiteError.Stopped fault))) }
         ensures stops { (fault : ℕ) → IsErrOf result (SiteError.Failed fault) → HasStopped fault self.new }
         ensures stopped { (fault : ℕ) → HasStopped fault self.old → IsErrOf result (SiteError.Stopped fault) }
@@ -369,9 +359,7 @@ impl<D: Disk> Site<D> {
         ensures any_moment { (c : Contents) → IsOpenSite D.disk true c (length c.sequence) self.old → AtEachMoment (D.disk self.old.disk) (D.disk self.new.disk) (λ f. (o : Contents) × MayMark c o × IsSite f o) }
         ensures still_told { IsSome (D.disk self.old.disk).content → IsSome (D.disk self.new.disk).content }
         ensures simulated { (D.disk self.new.disk).simulated ≡ (D.disk self.old.disk).simulated }
-        ensures later { (D.disk self.old.disk).faults ≤ (D.disk self.new.disk).faults }
-        ensures count { (fault : ℕ) → IsErrOf result (SiteError.Failed fault) → fault ≡ (D.disk self.new.disk).faults }
-        ensures cause { (fault : ℕ) → IsErrOf result (SiteError.Failed fault) → Rose (D.disk self.old.disk).faults (D.disk self.new.disk).faults }
+        ensures faults { MayFail (D.disk self.old.disk).faults (D.disk self.new.disk).faults (λ fault. IsErrOf result (SiteError.Failed fault)) }
         ensures causes { OnErr result (((fault : ℕ) × IsErrOf result (SiteError.Failed fault)) ⊎ IsErrOf result SiteError.NoMemory) }
         ensures stops { (fault : ℕ) → IsErrOf result (SiteError.Failed fault) → HasStopped fault self.new }
     {
@@ -398,9 +386,7 @@ impl<D: Disk> Site<D> {
         ensures stands { (c : Contents) (h : ℕ) → IsOpenSite D.disk true c h self.old → IfSome (D.disk self.new.disk).content (λ f. (o : Contents) × MayFinish c h o × IsSite f o) }
         ensures still_told { IsSome (D.disk self.old.disk).content → IsSome (D.disk self.new.disk).content }
         ensures simulated { (D.disk self.new.disk).simulated ≡ (D.disk self.old.disk).simulated }
-        ensures later { (D.disk self.old.disk).faults ≤ (D.disk self.new.disk).faults }
-        ensures count { (fault : ℕ) → IsErrOf result (SiteError.Failed fault) → fault ≡ (D.disk self.new.disk).faults }
-        ensures cause { (fault : ℕ) → IsErrOf result (SiteError.Failed fault) → Rose (D.disk self.old.disk).faults (D.disk self.new.disk).faults }
+        ensures faults { MayFail (D.disk self.old.disk).faults (D.disk self.new.disk).faults (λ fault. IsErrOf result (SiteError.Failed fault)) }
         ensures causes { OnErr result (((fault : ℕ) × IsErrOf result (SiteError.Failed fault)) ⊎ ((fault : ℕ) × IsErrOf result (SiteError.Stopped fault)) ⊎ IsErrOf result SiteError.NoMemory) }
         ensures stops { (fault : ℕ) → IsErrOf result (SiteError.Failed fault) → HasStopped fault self.new }
         ensures stopped { (fault : ℕ) → HasStopped fault self.old → IsErrOf result (SiteError.Stopped fault) }
@@ -431,9 +417,7 @@ impl<D: Disk> Site<D> {
         ensures stands { (c : Contents) (h : ℕ) → IsOpenSite D.disk true c h self.old → IfSome (D.disk self.new.disk).content (λ f. (o : Contents) × MayFinish c h o × IsSite f o) }
         ensures still_told { IsSome (D.disk self.old.disk).content → IsSome (D.disk self.new.disk).content }
         ensures simulated { (D.disk self.new.disk).simulated ≡ (D.disk self.old.disk).simulated }
-        ensures later { (D.disk self.old.disk).faults ≤ (D.disk self.new.disk).faults }
-        ensures count { (fault : ℕ) → IsErrOf result (SiteError.Failed fault) → fault ≡ (D.disk self.new.disk).faults }
-        ensures cause { (fault : ℕ) → IsErrOf result (SiteError.Failed fault) → Rose (D.disk self.old.disk).faults (D.disk self.new.disk).faults }
+        ensures faults { MayFail (D.disk self.old.disk).faults (D.disk self.new.disk).faults (λ fault. IsErrOf result (SiteError.Failed fault)) }
         ensures causes { OnErr result (((fault : ℕ) × IsErrOf result (SiteError.Failed fault)) ⊎ ((fault : ℕ) × IsErrOf result (SiteError.Stopped fault)) ⊎ IsErrOf result SiteError.NoMemory) }
         ensures stops { (fault : ℕ) → IsErrOf result (SiteError.Failed fault) → HasStopped fault self.new }
         ensures stopped { (fault : ℕ) → HasStopped fault self.old → IsErrOf result (SiteError.Stopped fault) }
@@ -458,9 +442,7 @@ impl<D: Disk> Site<D> {
         ensures stands { (c : Contents) (h : ℕ) → IsOpenSite D.disk true c h self → IfSome (D.disk result.0).content (λ f. (o : Contents) × MayFinish c h o × IsSite f o) }
         ensures still_told { IsSome (D.disk self.disk).content → IsSome (D.disk result.0).content }
         ensures simulated { (D.disk result.0).simulated ≡ (D.disk self.disk).simulated }
-        ensures later { (D.disk self.disk).faults ≤ (D.disk result.0).faults }
-        ensures count { (fault : ℕ) → IsErrOf result.1 (SiteError.Failed fault) → fault ≡ (D.disk result.0).faults }
-        ensures cause { (fault : ℕ) → IsErrOf result.1 (SiteError.Failed fault) → Rose (D.disk self.disk).faults (D.disk result.0).faults }
+        ensures faults { MayFail (D.disk self.disk).faults (D.disk result.0).faults (λ fault. IsErrOf result.1 (SiteError.Failed fault)) }
         ensures causes { OnErr result.1 (((fault : ℕ) × IsErrOf result.1 (SiteError.Failed fault)) ⊎ ((fault : ℕ) × IsErrOf result.1 (SiteError.Stopped fault)) ⊎ IsErrOf result.1 SiteError.NoMemory) }
         ensures stopped { (fault : ℕ) → HasStopped fault self → IsErrOf result.1 (SiteError.Stopped fault) }
         ensures stays { (fault : ℕ) → HasStopped fault self → result.0 ≡ self.disk }
@@ -555,9 +537,7 @@ impl<D: Disk> Site<D> {
         ensures outside { (file offset : ℕ) → IsErrOf result (SiteError.NotAFile file offset) → (c : Contents) (h : ℕ) → IsOpenSite D.disk true c h self.old → ⊥ }
         ensures inner { self.new.inner ≡ self.old.inner }
         ensures reads { Reads (D.disk self.old.disk) (D.disk self.new.disk) }
-        ensures later { (D.disk self.old.disk).faults ≤ (D.disk self.new.disk).faults }
-        ensures count { (fault : ℕ) → IsErrOf result (SiteError.Failed fault) → fault ≡ (D.disk self.new.disk).faults }
-        ensures cause { (fault : ℕ) → IsErrOf result (SiteError.Failed fault) → Rose (D.disk self.old.disk).faults (D.disk self.new.disk).faults }
+        ensures faults { MayFail (D.disk self.old.disk).faults (D.disk self.new.disk).faults (λ fault. IsErrOf result (SiteError.Failed fault)) }
         ensures causes { OnErr result (((fault : ℕ) × IsErrOf result (SiteError.Failed fault)) ⊎ ((fault : ℕ) × IsErrOf result (SiteError.Stopped fault)) ⊎ ((file : ℕ) × (offset : ℕ) × IsErrOf result (SiteError.NotAFile file offset)) ⊎ IsErrOf result SiteError.NoMemory) }
         ensures stops { (fault : ℕ) → IsErrOf result (SiteError.Failed fault) → HasStopped fault self.new }
         ensures stopped { (fault : ℕ) → HasStopped fault self.old → IsErrOf result (SiteError.Stopped fault) }
@@ -589,9 +569,7 @@ impl<D: Disk> Site<D> {
         ensures front { OnErr result (IsPrefix out.old out.new) }
         ensures inner { self.new.inner ≡ self.old.inner }
         ensures reads { Reads (D.disk self.old.disk) (D.disk self.new.disk) }
-        ensures later { (D.disk self.old.disk).faults ≤ (D.disk self.new.disk).faults }
-        ensures count { (fault : ℕ) → IsErrOf result (SiteError.Failed fault) → fault ≡ (D.disk self.new.disk).faults }
-        ensures cause { (fault : ℕ) → IsErrOf result (SiteError.Failed fault) → Rose (D.disk self.old.disk).faults (D.disk self.new.disk).faults }
+        ensures faults { MayFail (D.disk self.old.disk).faults (D.disk self.new.disk).faults (λ fault. IsErrOf result (SiteError.Failed fault)) }
         ensures causes { OnErr result (((fault : ℕ) × IsErrOf result (SiteError.Failed fault)) ⊎ ((fault : ℕ) × IsErrOf result (SiteError.Stopped fault)) ⊎ IsErrOf result SiteError.NoMemory) }
         ensures stops { (fault : ℕ) → IsErrOf result (SiteError.Failed fault) → HasStopped fault self.new }
         ensures stopped { (fault : ℕ) → HasStopped fault self.old → IsErrOf result (SiteError.Stopped fault) }

@@ -1,6 +1,6 @@
 //! A site as it stands on a disk, before anything is written.
 ghost use Rattle.std.specs.Prelude.{◌≡◌, ◌⊎◌, ◌≤◌, ◌<◌, ◌++◌, ◌∷◌, [], ℕ, List, true, map, IfOk, IfSome, OnOk, OnErr, IsErrOf};
-ghost use Rattle.disk_defs.specs.Disk.{Image, Reads, AtEachMoment, Rose};
+ghost use Rattle.disk_defs.specs.Disk.{Image, Reads, AtEachMoment, MayFail};
 ghost use Rattle.journal_defs.specs.Instance as defs;
 ghost use Rattle.journal_defs.specs.Instance.{generation};
 ghost use Rattle.journal_defs.specs.Numbers.{INSTANCE};
@@ -28,9 +28,11 @@ use global_dir::Directory;
 use gvn_key::{Bytes, NoMemory};
 use instance_file::{InstanceLog, InstanceRecord};
 use region_opening::{open_regions, rebuild_regions};
+use region_store::Regions;
 use repl_disk::Disk;
-use site_files::{ReadSite, Remembered, created_name, generation_in, read_site, remember_all};
-use site_regions::Regions;
+use site_files::{
+    ReadEntries, ReadSite, Remembered, created_name, generation_in, read_site, remember_all,
+};
 use std::alloc::Global;
 
 /// What the files of a site hold: its records, and the entries for which they stand.
@@ -95,15 +97,14 @@ pub fn find_files<D: Disk>(alloc: Global, disk: &mut D) -> Result<FoundFiles, Si
     ensures content { (D.disk disk.new).content ≡ (D.disk disk.old).content }
     ensures any_moment { AtEachMoment (D.disk disk.old) (D.disk disk.new) (Image (D.disk disk.old)) }
     ensures simulated { (D.disk disk.new).simulated ≡ (D.disk disk.old).simulated }
-    ensures later { (D.disk disk.old).faults ≤ (D.disk disk.new).faults }
-    ensures count { (fault : ℕ) → IsErrOf result (SiteError.Failed fault) → fault ≡ (D.disk disk.new).faults }
-    ensures cause { (fault : ℕ) → IsErrOf result (SiteError.Failed fault) → Rose (D.disk disk.old).faults (D.disk disk.new).faults }
+    ensures faults { MayFail (D.disk disk.old).faults (D.disk disk.new).faults (λ fault. IsErrOf result (SiteError.Failed fault)) }
     ensures causes { OnErr result (IsErrOf result SiteError.GenLimit ⊎ ((fault : ℕ) × IsErrOf result (SiteError.Failed fault)) ⊎ ((file : ℕ) × (offset : ℕ) × IsErrOf result (SiteError.NotAFile file offset)) ⊎ IsErrOf result SiteError.NoMemory) }
 {
-    let read = read_site(alloc, disk)?;
+    let found = read_site(alloc, disk)?;
+    let ReadEntries { read, entries } = found;
     sync_texts(disk, generation_in(read.log.records.as_slice()))?;
     sync_databases(disk, u32::from(read.directory.regions()))?;
-    let remembered = remember_all(alloc, disk, &read)?;
+    let remembered = remember_all(alloc, disk, &read, entries)?;
     let Remembered { entries, broken } = remembered;
     Ok(FoundFiles {
         read,
@@ -160,9 +161,7 @@ pub fn stand<D: Disk>(
         → IfSome (D.disk disk.old).content (IfFound found (λ _ _ files. HaveOutsideBlocks aim files file offset)) }
     ensures unsound { (file offset : ℕ) → IsErrOf result (SiteError.NotAFile file offset) → IfSome (D.disk disk.old).content (IfFound found (λ u seq files. IsSoundImage files u seq → ⊥)) }
     ensures reads { Reads (D.disk disk.old) (D.disk disk.new) }
-    ensures later { (D.disk disk.old).faults ≤ (D.disk disk.new).faults }
-    ensures count { (fault : ℕ) → IsErrOf result (SiteError.Failed fault) → fault ≡ (D.disk disk.new).faults }
-    ensures cause { (fault : ℕ) → IsErrOf result (SiteError.Failed fault) → Rose (D.disk disk.old).faults (D.disk disk.new).faults }
+    ensures faults { MayFail (D.disk disk.old).faults (D.disk disk.new).faults (λ fault. IsErrOf result (SiteError.Failed fault)) }
     ensures causes { OnErr result (((fault : ℕ) × IsErrOf result (SiteError.Failed fault)) ⊎ ((file : ℕ) × (offset : ℕ) × IsErrOf result (SiteError.NotAFile file offset)) ⊎ IsErrOf result SiteError.NoMemory) }
 {
     let directory = found.read.directory.copy()?;
@@ -190,9 +189,7 @@ fn stand_anew<D: Disk>(
     ensures opened { IfOk result (λ k. IsOpenAs true (D.disk disk.old) (D.disk disk.new) found (entry_count found.entries) k.globals) }
     ensures outside { (file offset : ℕ) → IsErrOf result (SiteError.NotAFile file offset) → IfSome (D.disk disk.old).content (IfFound found (λ _ _ _. ⊥)) }
     ensures reads { Reads (D.disk disk.old) (D.disk disk.new) }
-    ensures later { (D.disk disk.old).faults ≤ (D.disk disk.new).faults }
-    ensures count { (fault : ℕ) → IsErrOf result (SiteError.Failed fault) → fault ≡ (D.disk disk.new).faults }
-    ensures cause { (fault : ℕ) → IsErrOf result (SiteError.Failed fault) → Rose (D.disk disk.old).faults (D.disk disk.new).faults }
+    ensures faults { MayFail (D.disk disk.old).faults (D.disk disk.new).faults (λ fault. IsErrOf result (SiteError.Failed fault)) }
     ensures causes { OnErr result (((fault : ℕ) × IsErrOf result (SiteError.Failed fault)) ⊎ ((file : ℕ) × (offset : ℕ) × IsErrOf result (SiteError.NotAFile file offset)) ⊎ IsErrOf result SiteError.NoMemory) }
 {
     let directory = found.read.directory.copy()?;
@@ -242,9 +239,7 @@ pub(crate) fn read_standing<D: Disk>(
     ensures content { (D.disk disk.new).content ≡ (D.disk disk.old).content }
     ensures any_moment { AtEachMoment (D.disk disk.old) (D.disk disk.new) (Image (D.disk disk.old)) }
     ensures simulated { (D.disk disk.new).simulated ≡ (D.disk disk.old).simulated }
-    ensures later { (D.disk disk.old).faults ≤ (D.disk disk.new).faults }
-    ensures count { (fault : ℕ) → IsErrOf result (SiteError.Failed fault) → fault ≡ (D.disk disk.new).faults }
-    ensures cause { (fault : ℕ) → IsErrOf result (SiteError.Failed fault) → Rose (D.disk disk.old).faults (D.disk disk.new).faults }
+    ensures faults { MayFail (D.disk disk.old).faults (D.disk disk.new).faults (λ fault. IsErrOf result (SiteError.Failed fault)) }
     ensures causes { OnErr result (IsErrOf result SiteError.GenLimit ⊎ ((region : ℕ) × IsErrOf result (SiteError.NeedForward region)) ⊎ ((fault : ℕ) × IsErrOf result (SiteError.Failed fault)) ⊎ ((file : ℕ) × (offset : ℕ) × IsErrOf result (SiteError.NotAFile file offset)) ⊎ IsErrOf result SiteError.NoMemory) }
 {
     let found = find_files(alloc, disk)?;

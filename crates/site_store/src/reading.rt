@@ -1,7 +1,7 @@
 //! The bytes of a file.
 ghost use Rattle.std.specs.Prelude.{◌≡◌, ◌⊎◌, ◌≤◌, ◌+◌, ◌++◌, ℕ, length, take, drop, IfSome, OnOk, OnErr, IsErrOf};
 ghost use Rattle.global_defs.specs.Prefix.{IsPrefix};
-ghost use Rattle.disk_defs.specs.Disk.{Reads, Rose};
+ghost use Rattle.disk_defs.specs.Disk.{Reads, MayFail};
 
 use crate::error::SiteError;
 use gvn_key::Bytes;
@@ -23,9 +23,7 @@ fn read_piece<D: Disk>(
     ensures front { OnOk result (IsPrefix out.old out.new) }
     ensures kept { OnErr result (out.new ≡ out.old) }
     ensures reads { Reads (D.disk disk.old) (D.disk disk.new) }
-    ensures later { (D.disk disk.old).faults ≤ (D.disk disk.new).faults }
-    ensures count { (fault : ℕ) → IsErrOf result (SiteError.Failed fault) → fault ≡ (D.disk disk.new).faults }
-    ensures cause { (fault : ℕ) → IsErrOf result (SiteError.Failed fault) → Rose (D.disk disk.old).faults (D.disk disk.new).faults }
+    ensures faults { MayFail (D.disk disk.old).faults (D.disk disk.new).faults (λ fault. IsErrOf result (SiteError.Failed fault)) }
     ensures causes { OnErr result (((fault : ℕ) × IsErrOf result (SiteError.Failed fault)) ⊎ IsErrOf result SiteError.NoMemory) }
 {
     let mut piece = Vec::new(out.allocator());
@@ -49,9 +47,7 @@ pub fn read_file<D: Disk>(disk: &mut D, file: u32, out: &mut Bytes) -> Result<()
     ensures text { OnOk result (IfSome (D.disk disk.old).content (λ files. out.new ≡ out.old ++ files file)) }
     ensures front { OnErr result (IsPrefix out.old out.new) }
     ensures reads { Reads (D.disk disk.old) (D.disk disk.new) }
-    ensures later { (D.disk disk.old).faults ≤ (D.disk disk.new).faults }
-    ensures count { (fault : ℕ) → IsErrOf result (SiteError.Failed fault) → fault ≡ (D.disk disk.new).faults }
-    ensures cause { (fault : ℕ) → IsErrOf result (SiteError.Failed fault) → Rose (D.disk disk.old).faults (D.disk disk.new).faults }
+    ensures faults { MayFail (D.disk disk.old).faults (D.disk disk.new).faults (λ fault. IsErrOf result (SiteError.Failed fault)) }
     ensures causes { OnErr result (((fault : ℕ) × IsErrOf result (SiteError.Failed fault)) ⊎ IsErrOf result SiteError.NoMemory) }
 {
     let Ok(length) = disk.len(file) else {

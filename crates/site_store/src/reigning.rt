@@ -1,6 +1,6 @@
 //! Beginning a reign.
-ghost use Rattle.std.specs.Prelude.{◌≡◌, ◌⊎◌, ◌≤◌, ◌<◌, ◌^◌, ◌++◌, ◌∷◌, [], ℕ, Bool, true, false, length, Some, IfOk, IfSome, OnOk, OnErr, IsErrOf, IsSome};
-ghost use Rattle.disk_defs.specs.Disk.{Image, AtEachMoment, Rose};
+ghost use Rattle.std.specs.Prelude.{◌≡◌, ◌⊎◌, ◌<◌, ◌^◌, ◌++◌, ◌∷◌, [], ℕ, Bool, true, false, length, Some, IfOk, IfSome, OnOk, OnErr, IsErrOf, IsSome};
+ghost use Rattle.disk_defs.specs.Disk.{Image, AtEachMoment, MayFail};
 ghost use Rattle.gvn_model.specs.Reigns.{stamp_value, reign_value};
 ghost use Rattle.journal_defs.specs.Instance.{Reigned, site_name};
 ghost use Rattle.site_defs.specs.Contents.{Contents, bare};
@@ -81,9 +81,7 @@ impl OpenSite {
         ensures stands { (c : Contents) → IsOpen (D.disk disk.old) true c (length c.sequence) self.old → IfSome (D.disk disk.new).content (λ f. IsSite f c ⊎ IsSite f (with_reign (site_name c.instance) c)) }
         ensures still_told { IsSome (D.disk disk.old).content → IsSome (D.disk disk.new).content }
         ensures simulated { (D.disk disk.new).simulated ≡ (D.disk disk.old).simulated }
-        ensures later { (D.disk disk.old).faults ≤ (D.disk disk.new).faults }
-        ensures count { (fault : ℕ) → IsErrOf result (SiteError.Failed fault) → fault ≡ (D.disk disk.new).faults }
-        ensures cause { (fault : ℕ) → IsErrOf result (SiteError.Failed fault) → Rose (D.disk disk.old).faults (D.disk disk.new).faults }
+        ensures faults { MayFail (D.disk disk.old).faults (D.disk disk.new).faults (λ fault. IsErrOf result (SiteError.Failed fault)) }
         ensures causes { OnErr result (((fault : ℕ) × IsErrOf result (SiteError.Failed fault)) ⊎ IsErrOf result SiteError.NoMemory) }
     {
         match self.instance.reign(disk, reign) {
@@ -129,9 +127,7 @@ impl OpenSite {
         ensures stands { (c : Contents) → IsOpen (D.disk disk.old) true c (length c.sequence) self.old → IfSome (D.disk disk.new).content (λ f. IsSite f c ⊎ IsSite f (with_reign (site_name c.instance) c)) }
         ensures still_told { IsSome (D.disk disk.old).content → IsSome (D.disk disk.new).content }
         ensures simulated { (D.disk disk.new).simulated ≡ (D.disk disk.old).simulated }
-        ensures later { (D.disk disk.old).faults ≤ (D.disk disk.new).faults }
-        ensures count { (fault : ℕ) → IsErrOf result (SiteError.Failed fault) → fault ≡ (D.disk disk.new).faults }
-        ensures cause { (fault : ℕ) → IsErrOf result (SiteError.Failed fault) → Rose (D.disk disk.old).faults (D.disk disk.new).faults }
+        ensures faults { MayFail (D.disk disk.old).faults (D.disk disk.new).faults (λ fault. IsErrOf result (SiteError.Failed fault)) }
         ensures causes { OnErr result (IsErrOf result SiteError.ReignLimit ⊎ ((fault : ℕ) × IsErrOf result (SiteError.Failed fault)) ⊎ IsErrOf result SiteError.NoMemory) }
     {
         let reign = self.next_reign(alloc)?;

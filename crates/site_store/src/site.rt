@@ -7,7 +7,7 @@ use entry_index::EntryIndex;
 use gvn_model::{Reigns, Stamp};
 use instance_file::Instance;
 use region_journals::RegionJournals;
-use site_regions::Regions;
+use region_store::Regions;
 
 /// A site that is open, beside its disk: what its files stand for, in memory, and its files, open for calls.
 ///

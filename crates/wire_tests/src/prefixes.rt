@@ -1,6 +1,6 @@
 //! Worked keys byte by byte.
 use crate::rows::cut;
-use key_prefix::KeyPrefix;
+use gvn_key::KeyPrefix;
 use std::process::Abort;
 use std::test::Fail;
 

@@ -1,5 +1,5 @@
 use Rattle.std.proofs.Common.{◌≡◌, ◌<◌, ◌-◌, ◌≤◌, drop, vec_capacity}
-use Rattle.key_code.specs.Next.{Tells}
+use Rattle.gvn_key.specs.Next.{Tells}
 use Rattle.block_fmt.specs.Cells.{cell_at}
 use Rattle.block_fmt.specs.Read.{first_cell, cells_in, places, BeginWithCell}
 use Rattle.block_fmt.proofs.Walk.{IsWalked}

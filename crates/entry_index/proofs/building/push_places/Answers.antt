@@ -3,7 +3,7 @@ use Rattle.std.proofs.lemmas.List.{append-nil, append_assoc}
 use Rattle.entry_index.specs.declared.place.PartPlace.{PartPlace}
 use Rattle.entry_index.specs.Parts.{NOWHERE}
 use Rattle.entry_index.specs.Completing.{place_told}
-use Rattle.entry_index.specs.Table.{sign_at, AddsRow}
+use Rattle.entry_index.specs.Table.{row_sign, AddsRow}
 use Rattle.entry_index.proofs.ReadParts.{more_read}
 use Rattle.entry_index.proofs.building.push_places.Goals as goal
 
@@ -17,7 +17,7 @@ pub loop-region-preserved : goal.loop-region-preserved
 loop-region-preserved c =
     let l = c.loop-region in
     let a = c.args in
-    let f : ℕ → PartPlace = λ r. place_told (sign_at a.table.now a.place r) in
+    let f : ℕ → PartPlace = λ r. place_told (row_sign a.row.now r) in
     let old = a.made.now.places.items in
     let before = l.invariant.row in
     let row = before.0 in
@@ -38,4 +38,4 @@ returns-clause-row c =
     let a = c.args in
     let l = c.loop-region in
     let all : l.region ≡ a.made.now.regions = omega arith in
-    subst (λ (k : ℕ). AddsRow a.table.now a.place k true a.made.now.places.items l.made.places.items) all l.invariant.row
+    subst (λ (k : ℕ). AddsRow a.row.now k true a.made.now.places.items l.made.places.items) all l.invariant.row

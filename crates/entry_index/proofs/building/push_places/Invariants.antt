@@ -5,5 +5,5 @@ use Rattle.entry_index.proofs.building.push_places.Given as goal
 abbrev pub invariant-loop-region : goal.invariant-loop-region
 invariant-loop-region l = record {
   regions : l.made.regions ≡ l.fn.made.regions;
-  row : AddsRow l.table l.place l.region true l.fn.made.places.items l.made.places.items;
+  row : AddsRow l.row l.region true l.fn.made.places.items l.made.places.items;
 }

@@ -9,5 +9,5 @@ use Rattle.entry_index.specs.Table.{AreSigned}
 use Rattle.entry_index.proofs.completing.are_in_order.Given as goal
 
 abbrev pub invariant-loop-region : goal.invariant-loop-region
-invariant-loop-region l = (files : Files) (n : ℕ) (part : ℕ → Option Part) → AreSigned files l.table l.place n part
+invariant-loop-region l = (files : Files) (n : ℕ) (part : ℕ → Option Part) → AreSigned files l.row n part
     → next_after 0 (items_in l.head.mask part) ≡ next_after l.next (flat_map (items_at l.head.mask part) (drop l.region REGIONS))

@@ -2,10 +2,10 @@ use Rattle.std.proofs.Common.{◌≡◌, ℕ, length, take, List, sym, ◌∙◌
 use Rattle.std.proofs.lemmas.Bool.Decides.{nat_tests}
 use Rattle.std.specs.List.{flat_map}
 use Rattle.journal_defs.specs.Sequence.{REGIONS}
-use Rattle.jnl_index.specs.declared.sign.Span.{Span}
+use Rattle.entry_index.specs.declared.sign.Span.{Span}
 use Rattle.mupip_recover.specs.Parts.{items_at}
 use Rattle.mupip_recover.proofs.RegionLists.{count_more, count_over}
-use Rattle.entry_index.specs.Table.{sign_at}
+use Rattle.entry_index.specs.Table.{row_sign}
 use Rattle.entry_index.proofs.Complete.{spans, all_regions}
 use Rattle.entry_index.proofs.completing.has_count.Goals as goal
 
@@ -13,14 +13,14 @@ pub returns-then-many-left : goal.returns-then-many-left
 returns-then-many-left c = λ files n part are.
     let mask = c.args.head.now.mask in
     let long : length (items_at mask part c.loop-region.region) ≡ c.span_in-many.result.many =
-    sym (ap (λ (s : Span). s.many) (c.span_in-many.ensures ∙ spans files n (sign_at c.args.table.now c.args.place) part are mask c.loop-region.region)) in
+    sym (ap (λ (s : Span). s.many) (c.span_in-many.ensures ∙ spans files n (row_sign c.args.row.now) part are mask c.loop-region.region)) in
     count_over (items_at mask part) c.loop-region.region c.loop-region.left c.span_in-many.result.many c.args.head.now.count (omega arith) long (omega arith) (c.loop-region.invariant files n part are)
 
 pub loop-region-preserved : goal.loop-region-preserved
 loop-region-preserved c = λ files n part are.
     let mask = c.args.head.now.mask in
     let long : length (items_at mask part c.loop-region.region) ≡ c.span_in-many.result.many =
-    sym (ap (λ (s : Span). s.many) (c.span_in-many.ensures ∙ spans files n (sign_at c.args.table.now c.args.place) part are mask c.loop-region.region)) in
+    sym (ap (λ (s : Span). s.many) (c.span_in-many.ensures ∙ spans files n (row_sign c.args.row.now) part are mask c.loop-region.region)) in
     count_more (items_at mask part) c.loop-region.region c.loop-region.left c.span_in-many.result.many c.args.head.now.count (omega arith) long (omega arith) (c.loop-region.invariant files n part are)
 
 pub returns : goal.returns

@@ -8,5 +8,5 @@ use Rattle.entry_index.specs.Table.{AreSigned}
 use Rattle.entry_index.proofs.completing.has_count.Given as goal
 
 abbrev pub invariant-loop-region : goal.invariant-loop-region
-invariant-loop-region l = (files : Files) (n : ℕ) (part : ℕ → Option Part) → AreSigned files l.table l.place n part
+invariant-loop-region l = (files : Files) (n : ℕ) (part : ℕ → Option Part) → AreSigned files l.row n part
     → length (flat_map (items_at l.head.mask part) (take l.region REGIONS)) + l.left ≡ l.head.count

@@ -7,5 +7,5 @@ use Rattle.entry_index.specs.Table.{AreSigned}
 use Rattle.entry_index.proofs.completing.told_at.Given as goal
 
 abbrev pub invariant-loop-region : goal.invariant-loop-region
-invariant-loop-region l = (files : Files) (n : ℕ) (part : ℕ → Option Part) → AreSigned files l.table l.place n part → (stamp : Stamp)
+invariant-loop-region l = (files : Files) (n : ℕ) (part : ℕ → Option Part) → AreSigned files l.row n part → (stamp : Stamp)
     → entry_among part stamp REGIONS ≡ entry_among part stamp (drop l.region REGIONS)

@@ -3,7 +3,7 @@ use Rattle.std.specs.Option.{option_map}
 use Rattle.disk_defs.proofs.Told.{weaker_told}
 use Rattle.jnl_file.proofs.Newer.{all_told}
 use Rattle.jnl_file.specs.declared.error.JournalError.TheVariants.{NotARecord}
-use Rattle.jnl_index.specs.Places.{StandsAt}
+use Rattle.entry_index.specs.Places.{StandsAt}
 use Rattle.jnl_record.specs.Values.{record_value}
 use Rattle.journal_defs.specs.Journal.{JournalRecord, Part}
 use Rattle.entry_index.specs.Parts.{InFiles, IsPartAt, part_with, read_value}

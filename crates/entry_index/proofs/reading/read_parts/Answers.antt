@@ -31,7 +31,7 @@ loop-region-preserved g c =
           ap (λ (ms : List (Option Part)). get_or ms r None) more
           ∙ more_read part (map f l.made.items) (f found) None l.region (length-map l.made.items f ∙ l.invariant.many) (before part at) (one (part l.region) (at.each l.region (omega arith))) r low);
       reads = reads_more (view a.disk.now) (view l.disk) (view c.read_part.new.disk) (g.met.D.Disk.lawful a.disk.now) l.invariant.reads c.read_part.ensures.reads;
-      faults = omega (arith, l.invariant.faults, c.read_part.ensures.later);
+      faults = omega (arith, l.invariant.faults, c.read_part.ensures.faults.later);
     }
 
 pub returns-clause-read : goal.returns-clause-read

@@ -1,6 +1,6 @@
 use Rattle.std.proofs.Common.{◌+◌, true, false, Option, sym, ◌∙◌, ap}
 use Rattle.std.specs.Option.{option_or}
-use Rattle.entry_index.specs.declared.sign.PartSign.{PartSign}
+use Rattle.entry_index.specs.declared.signed_part.PartSign.{PartSign}
 use Rattle.entry_index.specs.Signs.{if_numbered}
 use Rattle.entry_index.specs.Table.{sign_in_column}
 use Rattle.entry_index.proofs.Columns.{surviving_sign}

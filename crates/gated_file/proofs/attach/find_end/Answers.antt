@@ -3,7 +3,7 @@ use Rattle.disk_defs.specs.Gates.{Body}
 use Rattle.disk_defs.proofs.Told.{told_at, both_weak}
 use Rattle.disk_defs.proofs.Frames.{reads_more}
 use Rattle.gated_file.specs.Reading.{BodyAt, HasBody}
-use Rattle.site_defs.specs.OutsideGates.{LeadsTo}
+use Rattle.disk_defs.specs.OutsideGates.{LeadsTo}
 use Rattle.gated_file.proofs.Walking.{leads_next}
 use Rattle.gated_file.proofs.attach.find_end.Goals as goal
 
@@ -14,7 +14,7 @@ loop-n-preserved g c =
     let file = c.args.file in
     let at = c.loop-n.at in
     let inside : at + (c.in-Some.n + 5) < c.args.size = search rules in
-    let faults : (view c.args.disk.now).faults ≤ (view c.body_length.new.disk).faults = omega (arith, inv.faults, c.body_length.ensures.later) in
+    let faults : (view c.args.disk.now).faults ≤ (view c.body_length.new.disk).faults = omega (arith, inv.faults, c.body_length.ensures.faults.later) in
     let found = told_at _ _ (λ files. BodyAt (files file) at c.in_ok-n.field-0) inv.reads.content c.in_ok-n.ensures.found in
     record {
       inside = inside;

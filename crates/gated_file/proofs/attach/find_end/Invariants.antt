@@ -1,7 +1,7 @@
 use Rattle.std.proofs.Common.{◌≤◌, ◌<◌, ◌-◌, List, IfSome}
 use Rattle.disk_defs.specs.Disk.{Reads}
 use Rattle.disk_defs.specs.Gates.{Body}
-use Rattle.site_defs.specs.OutsideGates.{LeadsTo}
+use Rattle.disk_defs.specs.OutsideGates.{LeadsTo}
 use Rattle.gated_file.proofs.attach.find_end.Given as goal
 
 abbrev pub invariant-loop-n : goal.invariant-loop-n

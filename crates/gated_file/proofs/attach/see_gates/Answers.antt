@@ -2,7 +2,7 @@ use Rattle.std.proofs.Common.{rules, ◌≡◌, List, length, [], Some, arith}
 use Rattle.disk_defs.specs.Gates.{Body, records}
 use Rattle.disk_defs.proofs.Told.{told_at, weaker_told, both_weak}
 use Rattle.gated_file.specs.Reading.{EndsAt}
-use Rattle.site_defs.specs.OutsideGates.{IsOutside}
+use Rattle.disk_defs.specs.OutsideGates.{IsOutside}
 use Rattle.gated_file.proofs.Attaching.{short_empty}
 use Rattle.gated_file.proofs.Walking.{ends_records}
 use Rattle.gated_file.proofs.attach.see_gates.Goals as goal

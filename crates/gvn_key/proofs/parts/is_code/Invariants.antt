@@ -1,5 +1,5 @@
 use Rattle.std.proofs.Common.{take, length}
-use Rattle.key_prefix.specs.Rests.{IsAt}
+use Rattle.gvn_key.specs.Rests.{IsAt}
 use Rattle.gvn_key.proofs.parts.is_code.Given as goal
 
 -- the bytes so far are taken

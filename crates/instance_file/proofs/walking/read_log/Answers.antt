@@ -92,7 +92,7 @@ loop-places-preserved g c =
       many = omega (arith, inv.many, ap length more, ap length c.in_ok-push.ensures.ok, length-append l.places.items (l.at ∷ []), length-append l.records (record_value x ∷ []));
       same = c.read_record.ensures.same ∙ inv.same;
       reads = reads_more v (view l.disk) (view c.read_record.new.disk) (g.met.D.Disk.lawful c.args.disk.now) inv.reads c.read_record.ensures.reads;
-      faults = omega (arith, inv.faults, c.read_record.ensures.later);
+      faults = omega (arith, inv.faults, c.read_record.ensures.faults.later);
     }
 
 pub returns-clause-listed : goal.returns-clause-listed

@@ -53,7 +53,7 @@ loop-before-preserved g c =
       content = c.read_generation.ensures.content ∙ inv.content;
       moments = nothing_new u v w (Image u) (g.met.D.Disk.lawful l.disk) inv.moments c.read_generation.ensures.any_moment;
       frame = frame_joins u v w r l.before n next inv.content c.args.last least most inv.frame c.read_generation.ensures.frame;
-      faults = omega (arith, inv.faults, c.read_generation.ensures.later);
+      faults = omega (arith, inv.faults, c.read_generation.ensures.faults.later);
     }
 
 pub returns-in-Err-clause-outside : goal.returns-in-Err-clause-outside

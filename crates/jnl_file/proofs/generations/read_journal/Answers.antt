@@ -1,6 +1,6 @@
 use Rattle.std.proofs.Common.{rules, ◌≡◌, List, Some, IsErrOf}
 use Rattle.disk_defs.specs.Gates.{Body, records}
-use Rattle.site_defs.specs.OutsideGates.{IsOutside}
+use Rattle.disk_defs.specs.OutsideGates.{IsOutside}
 use Rattle.jnl_file.specs.declared.error.JournalError.TheVariants.{NotARecord}
 use Rattle.jnl_file.proofs.Walk.{told_same}
 use Rattle.jnl_file.proofs.Outside.{told_stops, told_outside}

@@ -54,7 +54,7 @@ loop-body-preserved g c =
       began = inr refl;
       same = c.read_record.ensures.same ∙ inv.same;
       reads = reads_more v (view l.disk) (view c.read_record.new.disk) (g.met.D.Disk.lawful c.args.disk.now) inv.reads c.read_record.ensures.reads;
-      faults = omega (arith, inv.faults, c.read_record.ensures.later);
+      faults = omega (arith, inv.faults, c.read_record.ensures.faults.later);
     }
 
 pub returns-in_err-what-clause-stops : goal.returns-in_err-what-clause-stops

@@ -69,7 +69,7 @@ loop-body-preserved g c =
       walked = told_next v.content file c.args.region c.args.generation at c.in-Some.next x inv.walked found may;
       same = c.read_record.ensures.same ∙ inv.same;
       reads = reads_more v (view c.loop-body.disk) (view c.read_record.new.disk) (g.met.D.Disk.lawful c.args.disk.now) inv.reads c.read_record.ensures.reads;
-      faults = omega (arith, inv.faults, c.read_record.ensures.later);
+      faults = omega (arith, inv.faults, c.read_record.ensures.faults.later);
     }
 
 pub returns-clause-whole : goal.returns-clause-whole

@@ -32,7 +32,7 @@ loop-done-preserved g c =
       text = lost.goes_on f c.args.target c.args.out.now c.requires.has u.content l.done l.out c.write_entry.new.out low l.invariant.text
           (told_at u.content v.content (lost.IsAdded f c.args.target c.args.out.now l.done l.out c.write_entry.new.out) l.invariant.reads.content c.in_ok-write_entry.ensures.entry);
       reads = reads_more u v (view c.write_entry.new.disk) (g.met.D.Disk.lawful c.args.disk.now) l.invariant.reads c.write_entry.ensures.reads;
-      faults = omega (arith, l.invariant.faults, c.write_entry.ensures.later);
+      faults = omega (arith, l.invariant.faults, c.write_entry.ensures.faults.later);
     }
 
 pub returns-in_err-write_entry-clause-outside : goal.returns-in_err-write_entry-clause-outside

@@ -120,12 +120,17 @@ returns-clause-still_told g c = λ told.
     c.epoch.ensures.still_told (c.begin_kept.ensures.still_told
     (still (g.D.Disk.disk c.args.disk.now) (g.D.Disk.disk c.set_aside.new.disk) (AreSetAside c.args.prepared.log.records) c.set_aside.ensures.frame told))
 
-pub returns-clause-count : goal.returns-clause-count
-returns-clause-count g c = λ fault is. c.in-Err.ensures.count fault (failed_was c.in-Err.error c.in_site.result fault c.in_site.ensures is)
-
-pub returns-clause-cause : goal.returns-clause-cause
-returns-clause-cause g c = λ fault is.
-    let rose = c.in-Err.ensures.cause fault (failed_was c.in-Err.error c.in_site.result fault c.in_site.ensures is) in
-    let first : (g.D.Disk.disk c.args.disk.now).faults ≤ (g.D.Disk.disk c.set_aside.new.disk).faults = c.set_aside.ensures.later in
-    let second : (g.D.Disk.disk c.set_aside.new.disk).faults ≤ (g.D.Disk.disk c.begin_kept.new.disk).faults = c.begin_kept.ensures.later in
-    omega (arith, rose, first, second)
+pub returns-clause-faults : goal.returns-clause-faults
+returns-clause-faults g c = record {
+  later =
+      (let first = c.set_aside.ensures.faults.later in
+      let second = c.begin_kept.ensures.faults.later in
+      let third = c.epoch.ensures.faults.later in
+      omega (arith, first, second, third));
+  count = λ fault is. c.in-Err.ensures.faults.count fault (failed_was c.in-Err.error c.in_site.result fault c.in_site.ensures is);
+  cause = λ fault is.
+      (let rose = c.in-Err.ensures.faults.cause fault (failed_was c.in-Err.error c.in_site.result fault c.in_site.ensures is) in
+      let first : (g.D.Disk.disk c.args.disk.now).faults ≤ (g.D.Disk.disk c.set_aside.new.disk).faults = c.set_aside.ensures.faults.later in
+      let second : (g.D.Disk.disk c.set_aside.new.disk).faults ≤ (g.D.Disk.disk c.begin_kept.new.disk).faults = c.begin_kept.ensures.faults.later in
+      omega (arith, rose, first, second));
+}

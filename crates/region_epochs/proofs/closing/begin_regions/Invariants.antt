@@ -1,6 +1,6 @@
 use Rattle.std.proofs.Common.{◌≡◌, ◌≤◌, ℕ, Bool, false, List, length, replicate, Some}
 use Rattle.std.specs.Prelude.{slice_get}
-use Rattle.site_regions.specs.Joined.{region_at}
+use Rattle.region_store.specs.Joined.{region_at}
 use Rattle.region_epochs.specs.Taken.{HasSameNodes}
 use Rattle.region_epochs.proofs.Lifts.{AreLowered}
 use Rattle.region_epochs.proofs.Epochs.{IsBegun}

@@ -49,7 +49,7 @@ loop-region-preserved g c =
           first_then u v w h (length old) hard (λ r. []) (up_to k (one_each rs)) (g.met.D.Disk.lawful c.loop-region.disk) (inv.moments h hard ready keeps)
           (moments_as v w h hard (up_to k (one_each rs)) (length js) (length old) inv.count (call.any_moment h hard (up_to k (one_each rs)) (inv.ready h ready) (inv.state hard keeps)));
       frame = λ h ready. others_then (IsNewestFile h (length old)) u v w (inv.frame h ready) (frame_as v w h (length js) (length old) inv.count (call.frame h (inv.ready h ready)));
-      faults = omega (arith, inv.faults, call.later);
+      faults = omega (arith, inv.faults, call.faults.later);
     }
 
 pub append_records-requires-clause-ready : goal.append_records-requires-clause-ready

@@ -4,7 +4,7 @@ use Rattle.journal_defs.specs.Journal as journal
 use Rattle.disk_defs.proofs.Frames.{others_same}
 use Rattle.disk_defs.proofs.Moments.{started}
 use Rattle.region_store.specs.Region.{Standing, AreLogged, flushed}
-use Rattle.site_regions.specs.Joined.{region_at}
+use Rattle.region_store.specs.Joined.{region_at}
 use Rattle.region_epochs.specs.Files.{IsDatabaseFile}
 use Rattle.region_epochs.specs.Flushed.{AreCutShort}
 use Rattle.region_epochs.proofs.Lifts.{none_lifted, one_lifted, none_yet, nodes_then}
@@ -60,7 +60,7 @@ loop-region-preserved g c =
       same = nodes;
       moments = moments_then u v w old now new k low files left call.same call.frame (g.met.D.Disk.lawful c.loop-region.disk) inv.moments call.any_moment;
       frame = frame_then u v w old now new k low files left call.same call.frame inv.frame;
-      faults = omega (arith, inv.faults, call.later);
+      faults = omega (arith, inv.faults, call.faults.later);
     }
 
 pub flush-requires-clause-inside : goal.flush-requires-clause-inside

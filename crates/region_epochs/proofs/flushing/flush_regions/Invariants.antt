@@ -7,7 +7,7 @@ use Rattle.journal_defs.specs.Epochs.{Chosen, image_state, block_of}
 use Rattle.journal_defs.specs.Sound.{Restores}
 use Rattle.journal_defs.specs.Undo.{fresh}
 use Rattle.region_store.specs.Region.{HoldsRegion, IsHeld, flushed}
-use Rattle.site_regions.specs.Joined.{region_at}
+use Rattle.region_store.specs.Joined.{region_at}
 use Rattle.region_epochs.specs.Files.{IsDatabaseFile}
 use Rattle.region_epochs.specs.Flushed.{AreCutShort}
 use Rattle.region_epochs.specs.Taken.{HasSameNodes}

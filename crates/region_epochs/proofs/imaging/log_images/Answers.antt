@@ -1,7 +1,7 @@
 use Rattle.std.proofs.Common.{length, sym, ◌∙◌, arith}
 use Rattle.disk_defs.proofs.Frames.{others_then}
 use Rattle.region_journals.specs.Fronts.{IsNewestFile}
-use Rattle.site_regions.specs.Joined.{region_at}
+use Rattle.region_store.specs.Joined.{region_at}
 use Rattle.region_epochs.proofs.Reading.{frame_as}
 use Rattle.region_epochs.proofs.Logs.{first_moments, image_moments, is_imaged, held_after}
 use Rattle.region_epochs.proofs.imaging.log_images.Goals as goal

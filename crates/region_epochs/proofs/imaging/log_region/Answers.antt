@@ -5,7 +5,7 @@ use Rattle.jnl_record.specs.Values.{record_value}
 use Rattle.region_store.specs.Region.{changed_images}
 use Rattle.region_journals.specs.Journals.{KeepsJournals}
 use Rattle.region_journals.specs.Logging.{in_region}
-use Rattle.site_regions.specs.Joined.{region_at}
+use Rattle.region_store.specs.Joined.{region_at}
 use Rattle.region_epochs.specs.Kept.{image_records, images_in}
 use Rattle.region_epochs.proofs.Reading.{ready_reads, keeps_reads, begins_reading, then_frame, then_moments}
 use Rattle.region_epochs.proofs.imaging.log_region.Goals as goal

@@ -46,7 +46,7 @@ loop-number-preserved g c =
           first_then u v w h (length old) hard (λ r. []) wait.0 (g.met.D.Disk.lawful c.loop-number.disk) (inv.moments h hard ready keeps)
           (moments_as v w h hard wait.0 (length js) (length old) inv.count (call.any_moment h hard wait.0 (inv.ready h ready) wait.1));
       frame = λ h ready. others_then (IsNewestFile h (length old)) u v w (inv.frame h ready) (frame_as v w h (length js) (length old) inv.count (call.frame h (inv.ready h ready)));
-      faults = omega (arith, inv.faults, call.later);
+      faults = omega (arith, inv.faults, call.faults.later);
     }
 
 pub log_region-requires-clause-ready : goal.log_region-requires-clause-ready

@@ -8,7 +8,7 @@ use Rattle.before_image.specs.Images.{placed_images}
 use Rattle.region_store.specs.Region.{HoldsRegion}
 use Rattle.region_journals.specs.Journals.{KeepsJournals}
 use Rattle.region_journals.specs.Logging.{in_region}
-use Rattle.site_regions.specs.Joined.{region_at}
+use Rattle.region_store.specs.Joined.{region_at}
 use Rattle.region_epochs.specs.Kept.{image_records, image_needed}
 use Rattle.region_epochs.proofs.Reading.{ready_reads, keeps_reads, begins_reading, then_frame, then_moments}
 use Rattle.region_epochs.proofs.Needed.{had_no_memory, nothing_more, in_files}

@@ -3,7 +3,7 @@ use Rattle.std.specs.List.{find}
 use Rattle.std.specs.Ordering.{nat_cmp}
 use Rattle.std.specs.BTreeSet.{contains}
 use Rattle.std.proofs.lemmas.List.{nil_from_length}
-use Rattle.jnl_index.specs.declared.placed.PlacedSign.{PlacedSign}
+use Rattle.entry_index.specs.declared.placed.PlacedSign.{PlacedSign}
 use Rattle.region_opening.proofs.Said.{NO_SIGN}
 use Rattle.region_opening.proofs.Without.{none_found, not_this}
 use Rattle.region_opening.proofs.forward.first_among.Goals as goal

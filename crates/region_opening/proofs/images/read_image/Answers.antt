@@ -2,7 +2,7 @@ use Rattle.std.proofs.Common.{rules, ◌≡◌, ◌≤◌, ℕ, IsErrOf, subst, 
 use Rattle.disk_defs.proofs.Told.{weaker_told}
 use Rattle.jnl_file.proofs.Newer.{all_told}
 use Rattle.jnl_file.specs.declared.error.JournalError.TheVariants.{NotARecord}
-use Rattle.jnl_index.specs.Places.{StandsAt}
+use Rattle.entry_index.specs.Places.{StandsAt}
 use Rattle.jnl_record.specs.Values.{record_value}
 use Rattle.journal_defs.specs.Journal.{JournalRecord, Before, Pblk}
 use Rattle.journal_defs.specs.Numbers.{journal_file}

@@ -3,7 +3,7 @@ use Rattle.std.proofs.lemmas.Result.{err_from_is_err_and}
 use Rattle.disk_defs.proofs.Told.{told_at}
 use Rattle.disk_defs.proofs.Frames.{reads_more}
 use Rattle.journal_defs.specs.Sequence.{Placed}
-use Rattle.jnl_index.specs.Places.{IsSignOf}
+use Rattle.entry_index.specs.Places.{IsSignOf}
 use Rattle.region_store.specs.declared.error.RegionError.TheVariants.{NotAFile}
 use Rattle.region_store.proofs.Handed.{handed_on}
 use Rattle.region_opening.specs.Signs.{IsDrawn}
@@ -27,7 +27,7 @@ loop-placed-preserved g c =
       images = images_more u.content r ss l.placed-index l.made.items news c.loop-placed-test.true inv.images
           (told_at u.content v.content (IsAdded u.content r s l.made.items news) inv.reads.content c.in_ok-add_image.ensures.added);
       reads = reads_more u v (view c.add_image.new.disk) (g.met.D.Disk.lawful c.args.disk.now) inv.reads c.add_image.ensures.reads;
-      faults = omega (arith, inv.faults, c.add_image.ensures.later);
+      faults = omega (arith, inv.faults, c.add_image.ensures.faults.later);
     }
 
 pub returns-clause-images : goal.returns-clause-images

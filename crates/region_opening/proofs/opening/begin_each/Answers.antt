@@ -6,7 +6,7 @@ use Rattle.disk_defs.proofs.Frames.{reads_more}
 use Rattle.journal_defs.specs.Directory.{patterns}
 use Rattle.journal_defs.specs.Sequence.{Placed}
 use Rattle.global_defs.specs.Entry.{Sequence}
-use Rattle.jnl_index.specs.declared.placed.PlacedSign.{PlacedSign}
+use Rattle.entry_index.specs.declared.placed.PlacedSign.{PlacedSign}
 use Rattle.entry_index.specs.Signs.{signs_of}
 use Rattle.region_store.specs.Region.{Standing, IsHeld}
 use Rattle.region_store.specs.declared.error.RegionError.TheVariants.{NotAFile}
@@ -73,7 +73,7 @@ loop-number-preserved g c =
           (one_more_back u.content instance t signs rs ns made.region made.from n inv.count inv.numbers inv.back
           (told_at u.content v.content (λ files. (journal : List Placed) → AreTold files n (signs_of signs n) journal → IsGoneBack instance t made.from journal n made.region files) inv.reads.content back)));
       reads = reads_more u v (view c.open_region.new.disk) (g.met.D.Disk.lawful c.args.disk.now) inv.reads c.open_region.ensures.reads;
-      faults = omega (arith, inv.faults, c.open_region.ensures.later);
+      faults = omega (arith, inv.faults, c.open_region.ensures.faults.later);
     }
 
 pub returns-in_err-begun-clause-outside : goal.returns-in_err-begun-clause-outside

@@ -3,7 +3,7 @@ use Rattle.std.specs.Prelude.{slice_index}
 use Rattle.disk_defs.specs.Disk.{Reads}
 use Rattle.journal_defs.specs.Directory.{patterns}
 use Rattle.journal_defs.specs.Sequence.{Placed}
-use Rattle.jnl_index.specs.declared.placed.PlacedSign.{PlacedSign}
+use Rattle.entry_index.specs.declared.placed.PlacedSign.{PlacedSign}
 use Rattle.entry_index.specs.Signs.{signs_of}
 use Rattle.entry_index.specs.Indexes.{AreSigns}
 use Rattle.region_store.specs.Region.{Standing, IsHeld}

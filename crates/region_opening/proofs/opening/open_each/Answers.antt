@@ -7,7 +7,7 @@ use Rattle.global_defs.specs.Entry.{Reign, Sequence}
 use Rattle.global_defs.specs.Fields.{IsTransaction}
 use Rattle.journal_defs.specs.Directory.{patterns}
 use Rattle.journal_defs.specs.Surviving.{reigns}
-use Rattle.jnl_index.specs.declared.placed.PlacedSign.{PlacedSign}
+use Rattle.entry_index.specs.declared.placed.PlacedSign.{PlacedSign}
 use Rattle.entry_index.specs.Indexes.{Indexes}
 use Rattle.region_store.specs.declared.error.RegionError.TheVariants.{NotAFile}
 use Rattle.region_store.proofs.Handed.{handed_on}

@@ -1,10 +1,10 @@
 use Rattle.std.proofs.Common.{◌≡◌, ◌∙◌, ◌≤◌, List, Vec, Global, [], map, true, sym, subst, arith}
 use Rattle.std.proofs.lemmas.Result.{err_from_is_err_and}
-use Rattle.jnl_index.specs.declared.placed.PlacedSign.{PlacedSign}
+use Rattle.entry_index.specs.declared.placed.PlacedSign.{PlacedSign}
 use Rattle.journal_defs.specs.Directory.{Pattern, patterns}
 use Rattle.region_store.specs.declared.error.RegionError.TheVariants.{NotAFile}
 use Rattle.region_store.proofs.Handed.{handed_on}
-use Rattle.site_regions.specs.Joined.{ArePartsOf, joined}
+use Rattle.region_store.specs.Joined.{ArePartsOf, joined}
 use Rattle.region_opening.specs.Opening.{are_home}
 use Rattle.region_opening.proofs.Opened.{have_parts, empty_parts, files_are, parts_told, state_told, holds_told, held_told, outside_told, unsound_told}
 use Rattle.region_opening.proofs.opening.open_regions.Goals as goal

@@ -4,14 +4,14 @@ use Rattle.global_defs.specs.Entry.{Sequence}
 use Rattle.journal_defs.specs.Directory.{Pattern, patterns}
 use Rattle.journal_defs.specs.Sound.{region_state}
 use Rattle.journal_defs.specs.Surviving.{reigns}
-use Rattle.jnl_index.specs.declared.placed.PlacedSign.{PlacedSign}
+use Rattle.entry_index.specs.declared.placed.PlacedSign.{PlacedSign}
 use Rattle.entry_index.specs.Found.{entry_count}
 use Rattle.entry_index.specs.Indexes.{Indexes}
 use Rattle.entry_index.specs.Signs.{signs_of}
 use Rattle.region_store.specs.Region.{Standing}
 use Rattle.region_store.specs.declared.error.RegionError.TheVariants.{NotAFile}
 use Rattle.region_store.proofs.Handed.{handed_on}
-use Rattle.site_regions.specs.Joined.{ArePartsOf, joined}
+use Rattle.region_store.specs.Joined.{ArePartsOf, joined}
 use Rattle.region_opening.specs.Opening.{are_home}
 use Rattle.region_opening.proofs.Opened.{AreGivenRefused, have_parts, empty_parts, anew_parts, anew_state, anew_told, files_are, held_told}
 use Rattle.region_opening.proofs.rebuilding.rebuild_regions.Goals as goal

@@ -1,6 +1,6 @@
 use Rattle.std.proofs.Common.{◌<◌, length, map, refl, arith}
 use Rattle.gvn_key.specs.Terms.{update_value}
-use Rattle.site_regions.proofs.Lists.{read_at}
+use Rattle.region_store.proofs.Lists.{read_at}
 use Rattle.region_opening.specs.Replaying.{IsGivenEntry}
 use Rattle.region_opening.proofs.Becoming.{none_become, next_becomes, all_become}
 use Rattle.region_opening.proofs.replaying.make_entry.Goals as goal

@@ -27,7 +27,7 @@ loop-done-preserved g c =
           c.in_ok-make_entry.ensures.made;
       within = omega (arith, c.loop-done-test.true);
       reads = reads_more u v (view c.read_entry.new.disk) (g.met.D.Disk.lawful a.disk.now) inv.reads c.read_entry.ensures.reads;
-      faults = omega (arith, inv.faults, c.read_entry.ensures.later);
+      faults = omega (arith, inv.faults, c.read_entry.ensures.faults.later);
     }
 
 pub returns-clause-made : goal.returns-clause-made

@@ -29,7 +29,7 @@ loop-number-preserved g c =
       told = l.invariant.told;
       laid = more_told (view c.args.disk.now).content (view l.disk).content c.args.undo.now c.args.file l.number l.pool c.read_one.new.pool l.invariant.reads.content c.in_ok-read_one.ensures.laid l.invariant.laid;
       reads = reads_more (view c.args.disk.now) (view l.disk) (view c.read_one.new.disk) (g.met.D.Disk.lawful c.args.disk.now) l.invariant.reads c.read_one.ensures.reads;
-      faults = omega (arith, l.invariant.faults, c.read_one.ensures.later);
+      faults = omega (arith, l.invariant.faults, c.read_one.ensures.faults.later);
     }
 
 pub returns-clause-laid : goal.returns-clause-laid

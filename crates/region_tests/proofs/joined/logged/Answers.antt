@@ -2,7 +2,7 @@ use Rattle.std.proofs.Common.{Option, sym, ap, subst}
 use Rattle.std.specs.Prelude.{IfSome}
 use Rattle.disk_defs.specs.Disk.{Files}
 use Rattle.region_store.specs.Region.{Standing, IsHeld}
-use Rattle.site_regions.specs.Joined.{region_at}
+use Rattle.region_store.specs.Joined.{region_at}
 use Rattle.region_tests.proofs.Kept.{marked_held}
 use Rattle.region_tests.proofs.joined.logged.Goals as goal
 

@@ -1,7 +1,7 @@
 use Rattle.std.proofs.Common.{ap}
 use Rattle.disk_defs.specs.Disk.{OnFile}
 use Rattle.region_store.specs.Region.{Standing, IsCutShort}
-use Rattle.site_regions.specs.Joined.{region_at}
+use Rattle.region_store.specs.Joined.{region_at}
 use Rattle.region_tests.proofs.Kept.{flushed_held, begun_held}
 use Rattle.region_tests.proofs.joined.to_epoch.Goals as goal
 

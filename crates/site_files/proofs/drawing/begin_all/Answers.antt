@@ -75,7 +75,7 @@ loop-region-preserved g c =
       begun = subst (λ (k : ℕ). IfSome u.content (λ _. (f : Files) → Image w f → From (Image u) (HasBegun gen n first k) f)) (sym next) (beginning.begun_more u v w gen n first r low inv.frame inv.begun made stays call.3.file has);
       moments = beginning.moments_more u v w gen n first r low inv.frame inv.begun inv.moments moments;
       frame = beginning.frame_more u v w gen n first r low inv.frame inv.begun stays;
-      faults = omega (arith, inv.faults, c.begin_next.ensures.later);
+      faults = omega (arith, inv.faults, c.begin_next.ensures.faults.later);
     }
 
 pub returns-in_err-begin_next-clause-any_moment : goal.returns-in_err-begin_next-clause-any_moment

@@ -6,7 +6,7 @@ use Rattle.jnl_file.proofs.Newer.{all_told}
 use Rattle.journal_defs.specs.Sequence.{Placed}
 use Rattle.jnl_record.specs.declared.placed.PlacedRecord.{PlacedRecord}
 use Rattle.jnl_record.specs.Values.{placed_value}
-use Rattle.jnl_index.specs.Places.{IsSignOf}
+use Rattle.entry_index.specs.Places.{IsSignOf}
 use Rattle.site_files.specs.Past.{all_past}
 use Rattle.site_files.proofs.Errors.{causes_on}
 use Rattle.site_files.proofs.PastRead.{none_of, one_of}

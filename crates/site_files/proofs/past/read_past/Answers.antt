@@ -6,7 +6,7 @@ use Rattle.disk_defs.proofs.Told.{weaker_told}
 use Rattle.journal_defs.specs.Sequence.{Placed}
 use Rattle.jnl_record.specs.declared.placed.PlacedRecord.{PlacedRecord}
 use Rattle.jnl_record.specs.Values.{placed_value}
-use Rattle.jnl_index.specs.declared.placed.PlacedSign.{PlacedSign}
+use Rattle.entry_index.specs.declared.placed.PlacedSign.{PlacedSign}
 use Rattle.mupip_recover.specs.Site.{journal_of}
 use Rattle.entry_index.specs.Indexes.{AreSigns}
 use Rattle.site_files.specs.declared.error.FilesError.TheVariants.{NotAFile}
@@ -37,7 +37,7 @@ loop-region-preserved g c =
           l.made.items c.add_region.new.regions.items made c.in_ok-add_region.ensures inv.many inv.read here;
       many = one_longer l.made.items c.add_region.new.regions.items c.in_ok-read.read l.region c.in_ok-add_region.ensures inv.many;
       reads = reads_more (view a.disk.now) (view l.disk) (view c.read_region.new.disk) (g.met.D.Disk.lawful a.disk.now) inv.reads c.read_region.ensures.reads;
-      faults = omega (arith, inv.faults, c.read_region.ensures.later);
+      faults = omega (arith, inv.faults, c.read_region.ensures.faults.later);
     }
 
 pub returns-in_err-read-clause-outside : goal.returns-in_err-read-clause-outside

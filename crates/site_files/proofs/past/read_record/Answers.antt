@@ -4,7 +4,7 @@ use Rattle.jnl_file.proofs.Newer.{all_told}
 use Rattle.journal_defs.specs.Journal.{JournalRecord}
 use Rattle.journal_defs.specs.Sequence.{Placed}
 use Rattle.jnl_record.specs.Values.{record_value}
-use Rattle.jnl_index.specs.Places.{StandsAt, IsSignOf}
+use Rattle.entry_index.specs.Places.{StandsAt, IsSignOf}
 use Rattle.site_files.proofs.PastRead.{is_record, nothing_there, refused_there}
 use Rattle.site_files.proofs.past.read_record.Goals as goal
 

@@ -21,7 +21,7 @@ loop-placed-preserved g c =
     record {
       read = told_past (view a.disk.now).content (view l.disk).content a.region a.length a.signs.now l.placed-index _ old new inv.reads.content (omega arith) inv.read c.in_ok-add_past.ensures.added;
       reads = reads_more (view a.disk.now) (view l.disk) (view c.add_past.new.disk) (g.met.D.Disk.lawful a.disk.now) inv.reads c.add_past.ensures.reads;
-      faults = omega (arith, inv.faults, c.add_past.ensures.later);
+      faults = omega (arith, inv.faults, c.add_past.ensures.faults.later);
     }
 
 pub returns-in_err-add_past-clause-outside : goal.returns-in_err-add_past-clause-outside

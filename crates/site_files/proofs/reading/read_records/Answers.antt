@@ -1,20 +1,20 @@
 use Rattle.std.proofs.Common.{◌≡◌, ℕ, List, Vec, Global, length, map, None, Some, ◌∙◌, ap, subst, arith}
 use Rattle.std.proofs.lemmas.Result.{err_from_is_err_and}
-use Rattle.std.proofs.lemmas.List.{length-map}
 use Rattle.disk_defs.specs.Disk.{Files, Image}
 use Rattle.disk_defs.proofs.Moments.{nothing_new}
 use Rattle.disk_defs.proofs.Told.{told_at}
 use Rattle.global_dir.specs.Directory.{Mapping}
-use Rattle.jnl_index.specs.declared.placed.PlacedSign.{PlacedSign}
+use Rattle.entry_index.specs.declared.placed.PlacedSign.{PlacedSign}
+use Rattle.entry_index.specs.Found.{HaveFound}
 use Rattle.journal_defs.specs.Instance.{InstanceRecord, generation, regions}
 use Rattle.journal_defs.specs.Sequence.{Placed}
 use Rattle.site_files.specs.declared.error.FilesError.TheVariants.{NotAFile}
-use Rattle.site_files.specs.Loading.{IsDirectory, last_of}
-use Rattle.site_files.specs.Reading.{HaveSigns}
+use Rattle.site_files.specs.Loading.{IsDirectory}
 use Rattle.site_defs.specs.Outside.{HaveJournals, AreOutside}
 use Rattle.site_files.proofs.Places.{instance_place, directory_place, journals_place}
 use Rattle.site_files.proofs.Errors.{handed_on, causes_on}
 use Rattle.site_files.proofs.RecordsRead.{generation_low, hold_no_instance, hold_no_directory, hold_no_journals, are_held}
+use Rattle.site_files.proofs.Counts.{whole_rows}
 use Rattle.site_files.proofs.reading.read_records.Goals as goal
 
 pub returns-in_err-log-clause-place : goal.returns-in_err-log-clause-place
@@ -68,8 +68,8 @@ returns-in_err-plan-clause-outside g c =
     hold_no_directory (g.D.Disk.disk c.args.disk.now).content c.in_ok-log.log.records c.in_ok-log.ensures.reads
     (subst (λ (k : List InstanceRecord). IsDirectory k None) c.as_slice.ensures (c.in_err-plan.ensures.outside file offset (handed_on c.in_err-plan.field-0.0 (NotAFile file offset) is))))
 
-pub read_regions-requires-clause-last : goal.read_regions-requires-clause-last
-read_regions-requires-clause-last g c =
+pub read_journals-requires-clause-last : goal.read_journals-requires-clause-last
+read_journals-requires-clause-last g c =
     let newest : c.in_ok-plan.plan.newest ≡ generation c.in_ok-log.log.records = c.in_ok-plan.ensures.newest ∙ ap generation c.as_slice.ensures in
     let low = generation_low c.in_ok-log.log.records c.in_ok-log.ensures.form in
     omega (arith, newest, low)
@@ -82,13 +82,13 @@ returns-in_err-found-clause-causes g c =
 pub returns-in_err-found-clause-any_moment : goal.returns-in_err-found-clause-any_moment
 returns-in_err-found-clause-any_moment g c =
     let view = g.D.Disk.disk in
-    nothing_new (view c.args.disk.now) (view c.read_instance.new.disk) (view c.read_regions.new.disk) (Image (view c.args.disk.now)) (g.met.D.Disk.lawful c.read_instance.new.disk)
+    nothing_new (view c.args.disk.now) (view c.read_instance.new.disk) (view c.read_journals.new.disk) (Image (view c.args.disk.now)) (g.met.D.Disk.lawful c.read_instance.new.disk)
     c.in_ok-log.ensures.any_moment c.in_err-found.ensures.any_moment
 
 pub returns-clause-any_moment : goal.returns-clause-any_moment
 returns-clause-any_moment g c =
     let view = g.D.Disk.disk in
-    nothing_new (view c.args.disk.now) (view c.read_instance.new.disk) (view c.read_regions.new.disk) (Image (view c.args.disk.now)) (g.met.D.Disk.lawful c.read_instance.new.disk)
+    nothing_new (view c.args.disk.now) (view c.read_instance.new.disk) (view c.read_journals.new.disk) (Image (view c.args.disk.now)) (g.met.D.Disk.lawful c.read_instance.new.disk)
     c.in_ok-log.ensures.any_moment c.in_ok-found.ensures.any_moment
 
 pub returns-in_err-found-clause-outside : goal.returns-in_err-found-clause-outside
@@ -114,19 +114,29 @@ returns-clause-held g c =
     let v = view c.read_instance.new.disk in
     let rs = c.in_ok-log.log.records in
     let n = c.in_ok-plan.plan.regions in
-    let newest_read = c.in_ok-plan.plan.newest in
-    let got = c.in_ok-found.ensures in
-    let last = last_of c.in_ok-found.found.last_began.items in
-    let signs = map (λ (j : Vec PlacedSign Global). j.items) c.in_ok-found.found.signs.items in
+    let g1 = c.in_ok-plan.plan.newest in
+    let found = c.in_ok-found.found in
+    let signs = map (λ (j : Vec PlacedSign Global). j.items) found.signs.items in
     let directory = subst (λ (k : List InstanceRecord). IsDirectory k (Some c.in_ok-plan.plan.directory)) c.as_slice.ensures c.in_ok-plan.ensures.directory in
     let many : n ≡ length (regions rs) = c.in_ok-plan.ensures.regions ∙ ap (λ (d : Mapping). d.regions) directory.2 in
-    let newest : newest_read ≡ generation rs = c.in_ok-plan.ensures.newest ∙ ap generation c.as_slice.ensures in
-    are_held u.content rs last signs n newest_read many newest (length-map c.in_ok-found.found.signs.items (λ (j : Vec PlacedSign Global). j.items) ∙ got.many)
-    c.in_ok-log.ensures.reads (told_at u.content v.content (HaveSigns n newest_read last signs) c.in_ok-log.ensures.content got.read)
+    let newest : g1 ≡ generation rs = c.in_ok-plan.ensures.newest ∙ ap generation c.as_slice.ensures in
+    rw (c.with_found.ensures.log, c.with_found.ensures.signs, c.with_found.ensures.entries)
+    (are_held u.content rs found.last_began.items signs found.entries n g1 many newest c.in_ok-log.ensures.reads
+    (told_at u.content v.content (λ files. (journal : ℕ → List Placed) × HaveFound files rs n g1 signs found.last_began.items found.entries journal) c.in_ok-log.ensures.content c.in_ok-found.ensures.found))
 
 pub returns-clause-signs : goal.returns-clause-signs
 returns-clause-signs g c =
     let rs = c.in_ok-log.log.records in
     let directory = subst (λ (k : List InstanceRecord). IsDirectory k (Some c.in_ok-plan.plan.directory)) c.as_slice.ensures c.in_ok-plan.ensures.directory in
     let many : c.in_ok-plan.plan.regions ≡ length (regions rs) = c.in_ok-plan.ensures.regions ∙ ap (λ (d : Mapping). d.regions) directory.2 in
-    c.in_ok-found.ensures.many ∙ many
+    rw (c.with_found.ensures.log, c.with_found.ensures.signs) (c.in_ok-found.ensures.many ∙ many)
+
+pub returns-clause-rows : goal.returns-clause-rows
+returns-clause-rows g c =
+    let rs = c.in_ok-log.log.records in
+    let directory = subst (λ (k : List InstanceRecord). IsDirectory k (Some c.in_ok-plan.plan.directory)) c.as_slice.ensures c.in_ok-plan.ensures.directory in
+    let many : c.in_ok-plan.plan.regions ≡ length (regions rs) = c.in_ok-plan.ensures.regions ∙ ap (λ (d : Mapping). d.regions) directory.2 in
+    rw (c.with_found.ensures.log, c.with_found.ensures.entries) (whole_rows c.in_ok-found.found.entries c.in_ok-plan.plan.regions (length (regions rs)) many c.in_ok-found.ensures.rows)
+
+pub returns-clause-order : goal.returns-clause-order
+returns-clause-order g c = rw c.with_found.ensures.log c.in_ok-log.ensures.order

@@ -3,7 +3,7 @@ use Rattle.std.proofs.lemmas.Result.{err_from_is_err_and}
 use Rattle.disk_defs.specs.Disk.{Image}
 use Rattle.disk_defs.proofs.Moments.{nothing_new, started}
 use Rattle.jnl_file.proofs.Newer.{all_told}
-use Rattle.jnl_index.specs.declared.placed.PlacedSign.{PlacedSign}
+use Rattle.entry_index.specs.declared.placed.PlacedSign.{PlacedSign}
 use Rattle.site_files.specs.Loading.{last_of}
 use Rattle.site_files.specs.Reading.{AreAllDurable}
 use Rattle.site_files.specs.declared.error.FilesError.TheVariants.{NotAFile}
@@ -72,5 +72,5 @@ loop-region-preserved g c =
       content = call.content ∙ inv.content;
       moments = nothing_new u v w (Image u) (g.met.D.Disk.lawful l.disk) inv.moments call.any_moment;
       simulated = call.simulated ∙ inv.simulated;
-      faults = omega (arith, inv.faults, call.later);
+      faults = omega (arith, inv.faults, call.faults.later);
     }

@@ -6,7 +6,7 @@ use Rattle.journal_defs.specs.Broken.{BrokenPart, broken, broken_text}
 use Rattle.journal_defs.specs.Instance.{site_name}
 use Rattle.journal_defs.specs.Sequence.{Placed}
 use Rattle.jnl_record.specs.declared.placed.PlacedRecord.{PlacedRecord}
-use Rattle.jnl_index.specs.declared.placed.PlacedSign.{PlacedSign}
+use Rattle.entry_index.specs.declared.placed.PlacedSign.{PlacedSign}
 use Rattle.mupip_recover.specs.Site.{journal_of}
 use Rattle.entry_index.specs.Indexes.{AreSigns}
 use Rattle.site_files.specs.declared.error.FilesError.TheVariants.{NotAFile}

@@ -40,13 +40,13 @@ returns-in-Ok-clause-done g c =
     extracts s.name c.as_slice-2.result.now from before seq c.new-lines.result c.write_header.new.out lines (from_least c.args.number from c.unwrap_or-from.ensures c.requires.from) c.saturating_sub.ensures c.as_slice-2.ensures
     c.new-lines.ensures c.in_ok-write_header.ensures.ok added
     ∙ from_one s.name c.args.number from seq c.unwrap_or-from.ensures in
-    extracts_at (g.D.Disk.disk c.args.disk.now) (g.D.Disk.disk c.write_entries.new.disk) s c.in-Primary.reign c.args.number lines c.args.text.now _ e.reads e.later c.in-Primary.is
+    extracts_at (g.D.Disk.disk c.args.disk.now) (g.D.Disk.disk c.write_entries.new.disk) s c.in-Primary.reign c.args.number lines c.args.text.now _ e.reads e.faults.later c.in-Primary.is
     (λ x h is. shows x.sequence (e.entries x h is)) (e.some.0, e.some.1, shows e.some.0 e.some.2)
     (c.in_ok-push_all-in-Ok.ensures.ok ∙ ap (λ (x : List ℕ). c.args.text.now ++ x) c.as_slice-in-Ok.ensures)
 
 pub returns-in_err-push_all-in-Ok-clause-cut_off : goal.returns-in_err-push_all-in-Ok-clause-cut_off
 returns-in_err-push_all-in-Ok-clause-cut_off g c =
-    err_holds c.from_residual-in_err-push_all-in-Ok.result _ (read_cut (rows.extract c.args.number c.args.site.now.name) (g.D.Disk.disk c.args.disk.now) (g.D.Disk.disk c.write_entries.new.disk) c.args.site.now c.in-Ok.ensures.reads c.in-Ok.ensures.later)
+    err_holds c.from_residual-in_err-push_all-in-Ok.result _ (read_cut (rows.extract c.args.number c.args.site.now.name) (g.D.Disk.disk c.args.disk.now) (g.D.Disk.disk c.write_entries.new.disk) c.args.site.now c.in-Ok.ensures.reads c.in-Ok.ensures.faults.later)
 
 pub returns-in-Err-Failed-clause-done : goal.returns-in-Err-Failed-clause-done
 returns-in-Err-Failed-clause-done g c =
@@ -56,11 +56,11 @@ returns-in-Err-Failed-clause-done g c =
     let v = g.D.Disk.disk c.args.disk.now in
     let w = g.D.Disk.disk c.write_entries.new.disk in
     on_failed c.fail.result c.fail.new.site _ _ (λ (x : Site) (done : Bool). ExecutesAt (rows.extract c.args.number s.name) v s w x c.args.text.now c.fail.new.text done) c.fail.ensures.failed (λ t.
-    extract_faulted v w s c.in-Primary.reign c.args.number _ c.args.text.now _ e.reads c.in-Primary.is (c.in-Err-Failed.fault-is ∙ e.count c.in-Err-Failed.fault is) (e.cause c.in-Err-Failed.fault is) t)
+    extract_faulted v w s c.in-Primary.reign c.args.number _ c.args.text.now _ e.reads c.in-Primary.is (c.in-Err-Failed.fault-is ∙ e.faults.count c.in-Err-Failed.fault is) (e.faults.cause c.in-Err-Failed.fault is) t)
 
 pub returns-in-Err-Failed-clause-cut_off : goal.returns-in-Err-Failed-clause-cut_off
 returns-in-Err-Failed-clause-cut_off g c =
-    err_holds c.fail.result _ (read_cut (rows.extract c.args.number c.args.site.now.name) (g.D.Disk.disk c.args.disk.now) (g.D.Disk.disk c.write_entries.new.disk) c.args.site.now c.in-Err-Failed.ensures.reads c.in-Err-Failed.ensures.later)
+    err_holds c.fail.result _ (read_cut (rows.extract c.args.number c.args.site.now.name) (g.D.Disk.disk c.args.disk.now) (g.D.Disk.disk c.write_entries.new.disk) c.args.site.now c.in-Err-Failed.ensures.reads c.in-Err-Failed.ensures.faults.later)
 
 pub returns-in-Err-NotAFile-clause-ready : goal.returns-in-Err-NotAFile-clause-ready
 returns-in-Err-NotAFile-clause-ready g c =
@@ -73,12 +73,12 @@ returns-in-Err-NotAFile-clause-done g c =
     let file = c.in-Err-NotAFile.file in
     let offset = c.in-Err-NotAFile.offset in
     on_not_done c.damaged.result _ _ c.damaged.ensures (λ t.
-    extract_damaged (g.D.Disk.disk c.args.disk.now) (g.D.Disk.disk c.write_entries.new.disk) c.args.site.now c.in-Primary.reign c.args.number file offset c.args.text.now _ e.reads e.later c.in-Primary.is (e.outside file offset is)
+    extract_damaged (g.D.Disk.disk c.args.disk.now) (g.D.Disk.disk c.write_entries.new.disk) c.args.site.now c.in-Primary.reign c.args.number file offset c.args.text.now _ e.reads e.faults.later c.in-Primary.is (e.outside file offset is)
     (not_a_file _ c.in-Err-NotAFile.file-is c.in-Err-NotAFile.offset-is c.as_slice-in-Err-NotAFile.ensures t))
 
 pub returns-in-Err-NotAFile-clause-cut_off : goal.returns-in-Err-NotAFile-clause-cut_off
 returns-in-Err-NotAFile-clause-cut_off g c =
-    err_holds c.damaged.result _ (read_cut (rows.extract c.args.number c.args.site.now.name) (g.D.Disk.disk c.args.disk.now) (g.D.Disk.disk c.write_entries.new.disk) c.args.site.now c.in-Err-NotAFile.ensures.reads c.in-Err-NotAFile.ensures.later)
+    err_holds c.damaged.result _ (read_cut (rows.extract c.args.number c.args.site.now.name) (g.D.Disk.disk c.args.disk.now) (g.D.Disk.disk c.write_entries.new.disk) c.args.site.now c.in-Err-NotAFile.ensures.reads c.in-Err-NotAFile.ensures.faults.later)
 
 pub returns : goal.returns
-returns g c = record { ready = tt; done = tt; cut_off = read_cut (rows.extract c.args.number c.args.site.now.name) (g.D.Disk.disk c.args.disk.now) (g.D.Disk.disk c.write_entries.new.disk) c.args.site.now c.in-Err.ensures.reads c.in-Err.ensures.later }
+returns g c = record { ready = tt; done = tt; cut_off = read_cut (rows.extract c.args.number c.args.site.now.name) (g.D.Disk.disk c.args.disk.now) (g.D.Disk.disk c.write_entries.new.disk) c.args.site.now c.in-Err.ensures.reads c.in-Err.ensures.faults.later }

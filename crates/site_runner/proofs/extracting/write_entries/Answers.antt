@@ -36,7 +36,7 @@ loop-place-preserved g c =
     let number : l.place + 1 - 1 ≡ l.place = omega arith in
     record {
       reads = reads_more v (view l.disk) (view c.extract.new.disk) (g.met.D.Disk.lawful c.args.disk.now) inv.reads c.extract.ensures.reads;
-      faults = omega (arith, inv.faults, c.extract.ensures.later);
+      faults = omega (arith, inv.faults, c.extract.ensures.faults.later);
       reached = inr (omega (arith, low));
       entries = λ x h is.
           let many : count_of site ≡ length x.sequence = is.remembered.count in

@@ -24,21 +24,21 @@ returns-in-Ok-Some-clause-done g c =
     let e = c.in-Ok-Some.ensures in
     on_done c.map_found.result _ _ c.map_found.ensures.done (λ done m.
     maps_so c.args.region c.args.pattern.now (g.D.Disk.disk c.args.disk.now) (g.D.Disk.disk c.find.new.disk) (g.D.Disk.disk c.map_found.new.disk) c.args.site.now c.map_found.new.site c.args.text.now c.map_found.new.text done
-    (record { lawful = g.met.D.Disk.lawful c.find.new.disk; any_moment = e.any_moment; untouched = e.untouched; content = e.content; simulated = e.simulated; later = e.later }) c.requires.down e.alike m)
+    (record { lawful = g.met.D.Disk.lawful c.find.new.disk; any_moment = e.any_moment; untouched = e.untouched; content = e.content; simulated = e.simulated; later = e.faults.later }) c.requires.down e.alike m)
 
 pub returns-in-Ok-Some-clause-cut_off : goal.returns-in-Ok-Some-clause-cut_off
 returns-in-Ok-Some-clause-cut_off g c =
     let e = c.in-Ok-Some.ensures in
     on_err_of c.map_found.result _ _ c.map_found.ensures.cut_off (λ m.
     cut_so c.args.region c.args.pattern.now (g.D.Disk.disk c.args.disk.now) (g.D.Disk.disk c.find.new.disk) (g.D.Disk.disk c.map_found.new.disk) c.args.site.now
-    (record { lawful = g.met.D.Disk.lawful c.find.new.disk; any_moment = e.any_moment; untouched = e.untouched; content = e.content; simulated = e.simulated; later = e.later }) c.requires.down e.alike m)
+    (record { lawful = g.met.D.Disk.lawful c.find.new.disk; any_moment = e.any_moment; untouched = e.untouched; content = e.content; simulated = e.simulated; later = e.faults.later }) c.requires.down e.alike m)
 
 pub returns-in-Ok-None-clause-done : goal.returns-in-Ok-None-clause-done
 returns-in-Ok-None-clause-done g c =
     let e = c.in-Ok-None.ensures in
     on_not_done c.damaged.result _ _ c.damaged.ensures (λ t.
     look_damaged c.args.region c.args.pattern.now (g.D.Disk.disk c.args.disk.now) (g.D.Disk.disk c.find.new.disk) c.args.site.now 0 0 c.args.text.now _
-    (record { lawful = g.met.D.Disk.lawful c.find.new.disk; any_moment = e.any_moment; untouched = e.untouched; content = e.content; simulated = e.simulated; later = e.later }) c.requires.down (named _ _ c.as_slice.ensures t)
+    (record { lawful = g.met.D.Disk.lawful c.find.new.disk; any_moment = e.any_moment; untouched = e.untouched; content = e.content; simulated = e.simulated; later = e.faults.later }) c.requires.down (named _ _ c.as_slice.ensures t)
     (none_found (g.D.Disk.disk c.args.disk.now).content (layout_in c.in-Ok-None.field-0) (ap layout_in c.in-Ok-None.field-0-is) e.found)
     (blank_there (g.D.Disk.disk c.args.disk.now).content (g.D.Disk.disk c.find.new.disk).content e.content (e.empty (ap Ok c.in-Ok-None.field-0-is))))
 
@@ -46,7 +46,7 @@ pub returns-in-Ok-None-clause-cut_off : goal.returns-in-Ok-None-clause-cut_off
 returns-in-Ok-None-clause-cut_off g c =
     let e = c.in-Ok-None.ensures in
     err_holds c.damaged.result _ (look_cut c.leftovers_hold.ensures c.args.region c.args.pattern.now (g.D.Disk.disk c.args.disk.now) (g.D.Disk.disk c.find.new.disk) c.args.site.now c.requires.down
-    (record { lawful = g.met.D.Disk.lawful c.find.new.disk; any_moment = e.any_moment; untouched = e.untouched; content = e.content; simulated = e.simulated; later = e.later }))
+    (record { lawful = g.met.D.Disk.lawful c.find.new.disk; any_moment = e.any_moment; untouched = e.untouched; content = e.content; simulated = e.simulated; later = e.faults.later }))
 
 pub returns-in-Err-Failed-clause-done : goal.returns-in-Err-Failed-clause-done
 returns-in-Err-Failed-clause-done g c =
@@ -56,14 +56,14 @@ returns-in-Err-Failed-clause-done g c =
     let w = g.D.Disk.disk c.find.new.disk in
     on_failed c.fail.result c.fail.new.site _ _ (λ (x : Site) (done : Bool). ExecutesAt (map_pattern c.args.region c.args.pattern.now s.name) (g.D.Disk.disk c.args.disk.now) s w x c.args.text.now c.fail.new.text done) c.fail.ensures.failed (λ t.
     look_faulted c.leftovers_hold.ensures c.args.region c.args.pattern.now (g.D.Disk.disk c.args.disk.now) w s _ c.args.text.now _
-    (record { lawful = g.met.D.Disk.lawful c.find.new.disk; any_moment = e.any_moment; untouched = e.untouched; content = e.content; simulated = e.simulated; later = e.later }) c.requires.down
-    (c.in-Err-Failed.fault-is ∙ e.count c.in-Err-Failed.fault is) (e.cause c.in-Err-Failed.fault is) t)
+    (record { lawful = g.met.D.Disk.lawful c.find.new.disk; any_moment = e.any_moment; untouched = e.untouched; content = e.content; simulated = e.simulated; later = e.faults.later }) c.requires.down
+    (c.in-Err-Failed.fault-is ∙ e.faults.count c.in-Err-Failed.fault is) (e.faults.cause c.in-Err-Failed.fault is) t)
 
 pub returns-in-Err-Failed-clause-cut_off : goal.returns-in-Err-Failed-clause-cut_off
 returns-in-Err-Failed-clause-cut_off g c =
     let e = c.in-Err-Failed.ensures in
     err_holds c.fail.result _ (look_cut c.leftovers_hold.ensures c.args.region c.args.pattern.now (g.D.Disk.disk c.args.disk.now) (g.D.Disk.disk c.find.new.disk) c.args.site.now c.requires.down
-    (record { lawful = g.met.D.Disk.lawful c.find.new.disk; any_moment = e.any_moment; untouched = e.untouched; content = e.content; simulated = e.simulated; later = e.later }))
+    (record { lawful = g.met.D.Disk.lawful c.find.new.disk; any_moment = e.any_moment; untouched = e.untouched; content = e.content; simulated = e.simulated; later = e.faults.later }))
 
 pub returns-in-Err-NotAFile-clause-done : goal.returns-in-Err-NotAFile-clause-done
 returns-in-Err-NotAFile-clause-done g c =
@@ -72,7 +72,7 @@ returns-in-Err-NotAFile-clause-done g c =
     let offset = c.in-Err-NotAFile.offset in
     on_not_done c.damaged-in-Err-NotAFile.result _ _ c.damaged-in-Err-NotAFile.ensures (λ t.
     look_damaged c.args.region c.args.pattern.now (g.D.Disk.disk c.args.disk.now) (g.D.Disk.disk c.find.new.disk) c.args.site.now file offset c.args.text.now _
-    (record { lawful = g.met.D.Disk.lawful c.find.new.disk; any_moment = e.any_moment; untouched = e.untouched; content = e.content; simulated = e.simulated; later = e.later }) c.requires.down
+    (record { lawful = g.met.D.Disk.lawful c.find.new.disk; any_moment = e.any_moment; untouched = e.untouched; content = e.content; simulated = e.simulated; later = e.faults.later }) c.requires.down
     (not_a_file _ c.in-Err-NotAFile.file-is c.in-Err-NotAFile.offset-is c.as_slice-in-Err-NotAFile.ensures t)
     (nothing_there (g.D.Disk.disk c.args.disk.now).content (e.outside file offset (ap Err c.in-Err-NotAFile.field-0-is))) (e.place file offset (ap Err c.in-Err-NotAFile.field-0-is)))
 
@@ -80,7 +80,7 @@ pub returns-in-Err-NotAFile-clause-cut_off : goal.returns-in-Err-NotAFile-clause
 returns-in-Err-NotAFile-clause-cut_off g c =
     let e = c.in-Err-NotAFile.ensures in
     err_holds c.damaged-in-Err-NotAFile.result _ (look_cut c.leftovers_hold.ensures c.args.region c.args.pattern.now (g.D.Disk.disk c.args.disk.now) (g.D.Disk.disk c.find.new.disk) c.args.site.now c.requires.down
-    (record { lawful = g.met.D.Disk.lawful c.find.new.disk; any_moment = e.any_moment; untouched = e.untouched; content = e.content; simulated = e.simulated; later = e.later }))
+    (record { lawful = g.met.D.Disk.lawful c.find.new.disk; any_moment = e.any_moment; untouched = e.untouched; content = e.content; simulated = e.simulated; later = e.faults.later }))
 
 pub returns : goal.returns
 returns g c =
@@ -89,5 +89,5 @@ returns g c =
       ready = tt;
       done = tt;
       cut_off = look_cut c.leftovers_hold.ensures c.args.region c.args.pattern.now (g.D.Disk.disk c.args.disk.now) (g.D.Disk.disk c.find.new.disk) c.args.site.now c.requires.down
-          (record { lawful = g.met.D.Disk.lawful c.find.new.disk; any_moment = e.any_moment; untouched = e.untouched; content = e.content; simulated = e.simulated; later = e.later });
+          (record { lawful = g.met.D.Disk.lawful c.find.new.disk; any_moment = e.any_moment; untouched = e.untouched; content = e.content; simulated = e.simulated; later = e.faults.later });
     }

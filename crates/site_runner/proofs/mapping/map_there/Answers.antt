@@ -20,14 +20,14 @@ pub returns-in_ok-write_line-in-Ok-clause-done : goal.returns-in_ok-write_line-i
 returns-in_ok-write_line-in-Ok-clause-done g c =
     let e = c.in-Ok.ensures in
     there_done c.leftovers_hold.ensures c.args.region.now c.args.number c.args.pattern.now (g.D.Disk.disk c.args.disk.now) (g.D.Disk.disk c.map_logged.new.disk) c.args.site.now c.args.text.now _
-    (record { lawful = g.met.D.Disk.lawful c.map_logged.new.disk; free = c.requires.free; any_moment = e.any_moment; still_told = e.still_told; simulated = e.simulated; later = e.later })
+    (record { lawful = g.met.D.Disk.lawful c.map_logged.new.disk; free = c.requires.free; any_moment = e.any_moment; still_told = e.still_told; simulated = e.simulated; later = e.faults.later })
     c.requires.named e.reads e.images (if_some (g.D.Disk.disk c.args.disk.now).content _ (MappedBy c.args.region.now c.args.pattern.now c.args.site.now.name) (λ f i. (c.args.log.records, i, (c.requires.called, c.requires.unmapped))) c.requires.told) (named _ _ c.as_slice.ensures c.in_ok-write_line-in-Ok.ensures)
 
 pub returns-in_err-write_line-in-Ok-clause-cut_off : goal.returns-in_err-write_line-in-Ok-clause-cut_off
 returns-in_err-write_line-in-Ok-clause-cut_off g c =
     let e = c.in-Ok.ensures in
     err_holds c.from_residual.result _ (there_cut c.leftovers_hold.ensures c.args.region.now c.args.number c.args.pattern.now (g.D.Disk.disk c.args.disk.now) (g.D.Disk.disk c.map_logged.new.disk) c.args.site.now
-    (record { lawful = g.met.D.Disk.lawful c.map_logged.new.disk; free = c.requires.free; any_moment = e.any_moment; still_told = e.still_told; simulated = e.simulated; later = e.later }))
+    (record { lawful = g.met.D.Disk.lawful c.map_logged.new.disk; free = c.requires.free; any_moment = e.any_moment; still_told = e.still_told; simulated = e.simulated; later = e.faults.later }))
 
 pub returns-in-Err-Failed-clause-done : goal.returns-in-Err-Failed-clause-done
 returns-in-Err-Failed-clause-done g c =
@@ -37,14 +37,14 @@ returns-in-Err-Failed-clause-done g c =
     let w = g.D.Disk.disk c.map_logged.new.disk in
     on_failed c.fail.result c.fail.new.site _ _ (λ (x : Site) (done : Bool). MapsAt c.args.region.now c.args.pattern.now (g.D.Disk.disk c.args.disk.now) s w x c.args.text.now c.fail.new.text done) c.fail.ensures.failed (λ t.
     there_faulted c.leftovers_hold.ensures c.args.region.now c.args.number c.args.pattern.now (g.D.Disk.disk c.args.disk.now) w s _ c.args.text.now _
-    (record { lawful = g.met.D.Disk.lawful c.map_logged.new.disk; free = c.requires.free; any_moment = e.any_moment; still_told = e.still_told; simulated = e.simulated; later = e.later })
-    (c.in-Err-Failed.fault-is ∙ e.count c.in-Err-Failed.fault is) (e.cause c.in-Err-Failed.fault is) t)
+    (record { lawful = g.met.D.Disk.lawful c.map_logged.new.disk; free = c.requires.free; any_moment = e.any_moment; still_told = e.still_told; simulated = e.simulated; later = e.faults.later })
+    (c.in-Err-Failed.fault-is ∙ e.faults.count c.in-Err-Failed.fault is) (e.faults.cause c.in-Err-Failed.fault is) t)
 
 pub returns-in-Err-Failed-clause-cut_off : goal.returns-in-Err-Failed-clause-cut_off
 returns-in-Err-Failed-clause-cut_off g c =
     let e = c.in-Err-Failed.ensures in
     err_holds c.fail.result _ (there_cut c.leftovers_hold.ensures c.args.region.now c.args.number c.args.pattern.now (g.D.Disk.disk c.args.disk.now) (g.D.Disk.disk c.map_logged.new.disk) c.args.site.now
-    (record { lawful = g.met.D.Disk.lawful c.map_logged.new.disk; free = c.requires.free; any_moment = e.any_moment; still_told = e.still_told; simulated = e.simulated; later = e.later }))
+    (record { lawful = g.met.D.Disk.lawful c.map_logged.new.disk; free = c.requires.free; any_moment = e.any_moment; still_told = e.still_told; simulated = e.simulated; later = e.faults.later }))
 
 pub returns-in-Err-NotAFile-clause-done : goal.returns-in-Err-NotAFile-clause-done
 returns-in-Err-NotAFile-clause-done g c =
@@ -53,14 +53,14 @@ returns-in-Err-NotAFile-clause-done g c =
     let offset = c.in-Err-NotAFile.offset in
     on_not_done c.damaged.result _ _ c.damaged.ensures (λ t.
     there_damaged c.args.region.now c.args.number c.args.pattern.now (g.D.Disk.disk c.args.disk.now) (g.D.Disk.disk c.map_logged.new.disk) c.args.site.now file offset c.args.text.now _
-    (record { lawful = g.met.D.Disk.lawful c.map_logged.new.disk; free = c.requires.free; any_moment = e.any_moment; still_told = e.still_told; simulated = e.simulated; later = e.later })
+    (record { lawful = g.met.D.Disk.lawful c.map_logged.new.disk; free = c.requires.free; any_moment = e.any_moment; still_told = e.still_told; simulated = e.simulated; later = e.faults.later })
     (none_stands (g.D.Disk.disk c.args.disk.now).content (e.outside file offset (ap Err c.in-Err-NotAFile.field-0-is))) (e.outside file offset (ap Err c.in-Err-NotAFile.field-0-is)) (not_a_file _ c.in-Err-NotAFile.file-is c.in-Err-NotAFile.offset-is c.as_slice-in-Err-NotAFile.ensures t))
 
 pub returns-in-Err-NotAFile-clause-cut_off : goal.returns-in-Err-NotAFile-clause-cut_off
 returns-in-Err-NotAFile-clause-cut_off g c =
     let e = c.in-Err-NotAFile.ensures in
     err_holds c.damaged.result _ (there_cut c.leftovers_hold.ensures c.args.region.now c.args.number c.args.pattern.now (g.D.Disk.disk c.args.disk.now) (g.D.Disk.disk c.map_logged.new.disk) c.args.site.now
-    (record { lawful = g.met.D.Disk.lawful c.map_logged.new.disk; free = c.requires.free; any_moment = e.any_moment; still_told = e.still_told; simulated = e.simulated; later = e.later }))
+    (record { lawful = g.met.D.Disk.lawful c.map_logged.new.disk; free = c.requires.free; any_moment = e.any_moment; still_told = e.still_told; simulated = e.simulated; later = e.faults.later }))
 
 pub returns-in-Err : goal.returns-in-Err
 returns-in-Err g c =
@@ -69,5 +69,5 @@ returns-in-Err g c =
       ready = tt;
       done = tt;
       cut_off = there_cut c.leftovers_hold.ensures c.args.region.now c.args.number c.args.pattern.now (g.D.Disk.disk c.args.disk.now) (g.D.Disk.disk c.map_logged.new.disk) c.args.site.now
-          (record { lawful = g.met.D.Disk.lawful c.map_logged.new.disk; free = c.requires.free; any_moment = e.any_moment; still_told = e.still_told; simulated = e.simulated; later = e.later });
+          (record { lawful = g.met.D.Disk.lawful c.map_logged.new.disk; free = c.requires.free; any_moment = e.any_moment; still_told = e.still_told; simulated = e.simulated; later = e.faults.later });
     }

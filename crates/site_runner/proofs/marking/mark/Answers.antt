@@ -23,7 +23,7 @@ pub returns-in_err-write_numbered-in-Ok-clause-cut_off : goal.returns-in_err-wri
 returns-in_err-write_numbered-in-Ok-clause-cut_off g c =
     let e = c.in-Ok.ensures in
     err_holds c.from_residual.result _ (mark_cut c.leftovers_hold.ensures c.args.word.now (g.D.Disk.disk c.args.disk.now) (g.D.Disk.disk c.epoch.new.disk) c.args.site.now c.in-Primary.field-0 (g.met.D.Disk.lawful c.args.disk.now) c.in-Primary.is
-    (record { lawful = g.met.D.Disk.lawful c.epoch.new.disk; any_moment = e.any_moment; left = e.left; still_told = e.still_told; simulated = e.simulated; later = e.later }))
+    (record { lawful = g.met.D.Disk.lawful c.epoch.new.disk; any_moment = e.any_moment; left = e.left; still_told = e.still_told; simulated = e.simulated; later = e.faults.later }))
 
 pub returns-in_ok-write_numbered-in-Ok-clause-ready : goal.returns-in_ok-write_numbered-in-Ok-clause-ready
 returns-in_ok-write_numbered-in-Ok-clause-ready g c =
@@ -35,7 +35,7 @@ returns-in_ok-write_numbered-in-Ok-clause-done g c =
     let e = c.in-Ok.ensures in
     let s = c.args.site.now in
     marks_at c.args.word.now (g.D.Disk.disk c.args.disk.now) (g.D.Disk.disk c.epoch.new.disk) c.nothing_is_left.ensures s c.in-Primary.field-0 (record { site = c.epoch.new.self; serials = c.in-Primary.field-0.serials }) c.sequence_length-length.result c.args.text.now _
-    (g.met.D.Disk.lawful c.epoch.new.disk) c.in-Primary.is e.stamp refl e.simulated e.later e.done e.none_needs (c.sequence_length-length.ensures ∙ ap entry_count e.entries)
+    (g.met.D.Disk.lawful c.epoch.new.disk) c.in-Primary.is e.stamp refl e.simulated e.faults.later e.done e.none_needs (c.sequence_length-length.ensures ∙ ap entry_count e.entries)
     (named c.args.text.now (c.args.word.now ++ decimal c.sequence_length-length.result) c.as_slice-in-Ok.ensures c.in_ok-write_numbered-in-Ok.ensures)
 
 pub returns-in-Err-Failed-clause-done : goal.returns-in-Err-Failed-clause-done
@@ -47,14 +47,14 @@ returns-in-Err-Failed-clause-done g c =
     let w = g.D.Disk.disk c.epoch.new.disk in
     on_failed c.fail.result c.fail.new.site _ _ (λ (x : Site) (done : Bool). ExecutesAt (marking c.args.word.now s.name) v s w x c.args.text.now c.fail.new.text done) c.fail.ensures.failed (λ t.
     mark_faulted c.leftovers_hold.ensures c.args.word.now v w s c.in-Primary.field-0 _ c.args.text.now _ (g.met.D.Disk.lawful c.args.disk.now) c.in-Primary.is
-    (record { lawful = g.met.D.Disk.lawful c.epoch.new.disk; any_moment = e.any_moment; left = e.left; still_told = e.still_told; simulated = e.simulated; later = e.later })
-    (c.in-Err-Failed.fault-is ∙ e.count c.in-Err-Failed.fault is) (e.cause c.in-Err-Failed.fault is) t)
+    (record { lawful = g.met.D.Disk.lawful c.epoch.new.disk; any_moment = e.any_moment; left = e.left; still_told = e.still_told; simulated = e.simulated; later = e.faults.later })
+    (c.in-Err-Failed.fault-is ∙ e.faults.count c.in-Err-Failed.fault is) (e.faults.cause c.in-Err-Failed.fault is) t)
 
 pub returns-in-Err-Failed-clause-cut_off : goal.returns-in-Err-Failed-clause-cut_off
 returns-in-Err-Failed-clause-cut_off g c =
     let e = c.in-Err-Failed.ensures in
     err_holds c.fail.result _ (mark_cut c.leftovers_hold.ensures c.args.word.now (g.D.Disk.disk c.args.disk.now) (g.D.Disk.disk c.epoch.new.disk) c.args.site.now c.in-Primary.field-0 (g.met.D.Disk.lawful c.args.disk.now) c.in-Primary.is
-    (record { lawful = g.met.D.Disk.lawful c.epoch.new.disk; any_moment = e.any_moment; left = e.left; still_told = e.still_told; simulated = e.simulated; later = e.later }))
+    (record { lawful = g.met.D.Disk.lawful c.epoch.new.disk; any_moment = e.any_moment; left = e.left; still_told = e.still_told; simulated = e.simulated; later = e.faults.later }))
 
 pub returns-in-Err : goal.returns-in-Err
 returns-in-Err g c =
@@ -63,5 +63,5 @@ returns-in-Err g c =
       ready = tt;
       done = tt;
       cut_off = mark_cut c.leftovers_hold.ensures c.args.word.now (g.D.Disk.disk c.args.disk.now) (g.D.Disk.disk c.epoch.new.disk) c.args.site.now c.in-Primary.field-0 (g.met.D.Disk.lawful c.args.disk.now) c.in-Primary.is
-          (record { lawful = g.met.D.Disk.lawful c.epoch.new.disk; any_moment = e.any_moment; left = e.left; still_told = e.still_told; simulated = e.simulated; later = e.later });
+          (record { lawful = g.met.D.Disk.lawful c.epoch.new.disk; any_moment = e.any_moment; left = e.left; still_told = e.still_told; simulated = e.simulated; later = e.faults.later });
     }

@@ -16,12 +16,12 @@ use Rattle.site_runner.proofs.recovering.recover_down.Goals as goal
 pub returns-in_ok-write_numbered-in-Ok-clause-done : goal.returns-in_ok-write_numbered-in-Ok-clause-done
 returns-in_ok-write_numbered-in-Ok-clause-done g c =
     let e = c.in-Ok.ensures in
-    recover_done c.args.anew (g.D.Disk.disk c.args.disk.now) (g.D.Disk.disk c.recover_on.new.disk) c.args.site.now c.in-Ok.count c.args.text.now _ c.requires e.read e.told e.held e.simulated e.later (named _ _ c.as_slice.ensures c.in_ok-write_numbered-in-Ok.ensures)
+    recover_done c.args.anew (g.D.Disk.disk c.args.disk.now) (g.D.Disk.disk c.recover_on.new.disk) c.args.site.now c.in-Ok.count c.args.text.now _ c.requires e.read e.told e.held e.simulated e.faults.later (named _ _ c.as_slice.ensures c.in_ok-write_numbered-in-Ok.ensures)
 
 pub returns-in_err-write_numbered-in-Ok-clause-cut_off : goal.returns-in_err-write_numbered-in-Ok-clause-cut_off
 returns-in_err-write_numbered-in-Ok-clause-cut_off g c =
     let e = c.in-Ok.ensures in
-    err_holds c.from_residual.result _ (recover_cut c.leftovers_hold.ensures c.args.anew (g.D.Disk.disk c.args.disk.now) (g.D.Disk.disk c.recover_on.new.disk) c.args.site.now (g.met.D.Disk.lawful c.recover_on.new.disk) c.requires e.any_moment e.left e.still_told e.simulated e.later)
+    err_holds c.from_residual.result _ (recover_cut c.leftovers_hold.ensures c.args.anew (g.D.Disk.disk c.args.disk.now) (g.D.Disk.disk c.recover_on.new.disk) c.args.site.now (g.met.D.Disk.lawful c.recover_on.new.disk) c.requires e.any_moment e.left e.still_told e.simulated e.faults.later)
 
 pub returns-in-Err-GenLimit-clause-done : goal.returns-in-Err-GenLimit-clause-done
 returns-in-Err-GenLimit-clause-done g c =
@@ -29,13 +29,13 @@ returns-in-Err-GenLimit-clause-done g c =
     let is = ap Err c.in-Err-GenLimit.field-0-is in
     let kept = e.unwritten is in
     on_not_done c.refuse.result _ _ c.refuse.ensures (λ t.
-    recover_limit c.args.anew (g.D.Disk.disk c.args.disk.now) (g.D.Disk.disk c.recover_on.new.disk) c.args.site.now c.args.text.now _ (g.met.D.Disk.lawful c.recover_on.new.disk) c.requires (e.limit is) (e.limit_told is) kept.0 kept.1 e.simulated e.later
+    recover_limit c.args.anew (g.D.Disk.disk c.args.disk.now) (g.D.Disk.disk c.recover_on.new.disk) c.args.site.now c.args.text.now _ (g.met.D.Disk.lawful c.recover_on.new.disk) c.requires (e.limit is) (e.limit_told is) kept.0 kept.1 e.simulated e.faults.later
     (named _ _ c.as_slice-in-Err-GenLimit.ensures t))
 
 pub returns-in-Err-GenLimit-clause-cut_off : goal.returns-in-Err-GenLimit-clause-cut_off
 returns-in-Err-GenLimit-clause-cut_off g c =
     let e = c.in-Err-GenLimit.ensures in
-    err_holds c.refuse.result _ (recover_cut c.leftovers_hold.ensures c.args.anew (g.D.Disk.disk c.args.disk.now) (g.D.Disk.disk c.recover_on.new.disk) c.args.site.now (g.met.D.Disk.lawful c.recover_on.new.disk) c.requires e.any_moment e.left e.still_told e.simulated e.later)
+    err_holds c.refuse.result _ (recover_cut c.leftovers_hold.ensures c.args.anew (g.D.Disk.disk c.args.disk.now) (g.D.Disk.disk c.recover_on.new.disk) c.args.site.now (g.met.D.Disk.lawful c.recover_on.new.disk) c.requires e.any_moment e.left e.still_told e.simulated e.faults.later)
 
 pub returns-in-Err-NeedForward-clause-done : goal.returns-in-Err-NeedForward-clause-done
 returns-in-Err-NeedForward-clause-done g c =
@@ -49,7 +49,7 @@ returns-in-Err-NeedForward-clause-done g c =
     (if_some w.content (λ files. HaveFirstWithout files c.in-Err-NeedForward.region) (NeedsForward ToRecover Opening c.in-Err-NeedForward.region) (λ f k. (k.0, k.1, k.2, k.3, k.4, k.5, k.6, tt)) (subst (λ (o : Option Files). IfSome o (λ files. HaveFirstWithout files c.in-Err-NeedForward.region)) (sym kept.0) (e.needs c.in-Err-NeedForward.region is))))
     (λ done r.
     subst (λ (b : Bool). ExecutesAt (rows.recover b s.name) (g.D.Disk.disk c.args.disk.now) s (g.D.Disk.disk c.refuse_region.new.disk) c.refuse_region.new.site c.args.text.now c.refuse_region.new.text done) (sym (e.backward c.in-Err-NeedForward.region is))
-    (refuses_so ToRecover (g.D.Disk.disk c.args.disk.now) w (g.D.Disk.disk c.refuse_region.new.disk) s c.refuse_region.new.site c.args.text.now c.refuse_region.new.text done (g.met.D.Disk.lawful c.recover_on.new.disk) c.requires kept.0 kept.1 e.simulated e.later r))
+    (refuses_so ToRecover (g.D.Disk.disk c.args.disk.now) w (g.D.Disk.disk c.refuse_region.new.disk) s c.refuse_region.new.site c.args.text.now c.refuse_region.new.text done (g.met.D.Disk.lawful c.recover_on.new.disk) c.requires kept.0 kept.1 e.simulated e.faults.later r))
 
 pub returns-in-Err-NeedForward-clause-cut_off : goal.returns-in-Err-NeedForward-clause-cut_off
 returns-in-Err-NeedForward-clause-cut_off g c =
@@ -60,7 +60,7 @@ returns-in-Err-NeedForward-clause-cut_off g c =
     on_err_of c.refuse_region.result _ _ (c.refuse_region.ensures.cut_off ToRecover)
     (λ r.
     subst (λ (b : Bool). IsCutAt (rows.recover b s.name) (g.D.Disk.disk c.args.disk.now) s (g.D.Disk.disk c.refuse_region.new.disk)) (sym (e.backward c.in-Err-NeedForward.region is))
-    (cut_down_so ToRecover (g.D.Disk.disk c.args.disk.now) (g.D.Disk.disk c.recover_on.new.disk) (g.D.Disk.disk c.refuse_region.new.disk) s (g.met.D.Disk.lawful c.recover_on.new.disk) c.requires kept.0 kept.1 e.simulated e.later r))
+    (cut_down_so ToRecover (g.D.Disk.disk c.args.disk.now) (g.D.Disk.disk c.recover_on.new.disk) (g.D.Disk.disk c.refuse_region.new.disk) s (g.met.D.Disk.lawful c.recover_on.new.disk) c.requires kept.0 kept.1 e.simulated e.faults.later r))
 
 pub returns-in-Err-Failed-clause-done : goal.returns-in-Err-Failed-clause-done
 returns-in-Err-Failed-clause-done g c =
@@ -70,12 +70,12 @@ returns-in-Err-Failed-clause-done g c =
     let w = g.D.Disk.disk c.recover_on.new.disk in
     on_failed c.fail.result c.fail.new.site _ _ (λ (x : Site) (done : Bool). ExecutesAt (rows.recover c.args.anew s.name) (g.D.Disk.disk c.args.disk.now) s w x c.args.text.now c.fail.new.text done) c.fail.ensures.failed (λ t.
     recover_fault c.leftovers_hold.ensures c.args.anew (g.D.Disk.disk c.args.disk.now) w s _ c.args.text.now _ (g.met.D.Disk.lawful c.recover_on.new.disk) c.requires e.any_moment e.left e.still_told e.simulated
-    (c.in-Err-Failed.fault-is ∙ e.count c.in-Err-Failed.fault is) (e.cause c.in-Err-Failed.fault is) t)
+    (c.in-Err-Failed.fault-is ∙ e.faults.count c.in-Err-Failed.fault is) (e.faults.cause c.in-Err-Failed.fault is) t)
 
 pub returns-in-Err-Failed-clause-cut_off : goal.returns-in-Err-Failed-clause-cut_off
 returns-in-Err-Failed-clause-cut_off g c =
     let e = c.in-Err-Failed.ensures in
-    err_holds c.fail.result _ (recover_cut c.leftovers_hold.ensures c.args.anew (g.D.Disk.disk c.args.disk.now) (g.D.Disk.disk c.recover_on.new.disk) c.args.site.now (g.met.D.Disk.lawful c.recover_on.new.disk) c.requires e.any_moment e.left e.still_told e.simulated e.later)
+    err_holds c.fail.result _ (recover_cut c.leftovers_hold.ensures c.args.anew (g.D.Disk.disk c.args.disk.now) (g.D.Disk.disk c.recover_on.new.disk) c.args.site.now (g.met.D.Disk.lawful c.recover_on.new.disk) c.requires e.any_moment e.left e.still_told e.simulated e.faults.later)
 
 pub returns-in-Err-NotAFile-clause-done : goal.returns-in-Err-NotAFile-clause-done
 returns-in-Err-NotAFile-clause-done g c =
@@ -84,15 +84,15 @@ returns-in-Err-NotAFile-clause-done g c =
     let offset = c.in-Err-NotAFile.offset in
     on_not_done c.damaged.result _ _ c.damaged.ensures (λ t.
     recover_damaged c.args.anew (g.D.Disk.disk c.args.disk.now) (g.D.Disk.disk c.recover_on.new.disk) c.args.site.now file offset c.args.text.now _ c.requires (e.outside file offset (ap Err c.in-Err-NotAFile.field-0-is)) (e.place file offset (ap Err c.in-Err-NotAFile.field-0-is))
-    (if_some (g.D.Disk.disk c.args.disk.now).content _ _ (λ _ k. k.0) (e.refused file offset (ap Err c.in-Err-NotAFile.field-0-is))) e.simulated e.later
+    (if_some (g.D.Disk.disk c.args.disk.now).content _ _ (λ _ k. k.0) (e.refused file offset (ap Err c.in-Err-NotAFile.field-0-is))) e.simulated e.faults.later
     (not_a_file _ c.in-Err-NotAFile.file-is c.in-Err-NotAFile.offset-is c.as_slice-in-Err-NotAFile.ensures t))
 
 pub returns-in-Err-NotAFile-clause-cut_off : goal.returns-in-Err-NotAFile-clause-cut_off
 returns-in-Err-NotAFile-clause-cut_off g c =
     let e = c.in-Err-NotAFile.ensures in
-    err_holds c.damaged.result _ (recover_cut c.leftovers_hold.ensures c.args.anew (g.D.Disk.disk c.args.disk.now) (g.D.Disk.disk c.recover_on.new.disk) c.args.site.now (g.met.D.Disk.lawful c.recover_on.new.disk) c.requires e.any_moment e.left e.still_told e.simulated e.later)
+    err_holds c.damaged.result _ (recover_cut c.leftovers_hold.ensures c.args.anew (g.D.Disk.disk c.args.disk.now) (g.D.Disk.disk c.recover_on.new.disk) c.args.site.now (g.met.D.Disk.lawful c.recover_on.new.disk) c.requires e.any_moment e.left e.still_told e.simulated e.faults.later)
 
 pub returns-in-Err : goal.returns-in-Err
 returns-in-Err g c =
     let e = c.in-Err.ensures in
-    record { ready = tt; done = tt; cut_off = recover_cut c.leftovers_hold.ensures c.args.anew (g.D.Disk.disk c.args.disk.now) (g.D.Disk.disk c.recover_on.new.disk) c.args.site.now (g.met.D.Disk.lawful c.recover_on.new.disk) c.requires e.any_moment e.left e.still_told e.simulated e.later }
+    record { ready = tt; done = tt; cut_off = recover_cut c.leftovers_hold.ensures c.args.anew (g.D.Disk.disk c.args.disk.now) (g.D.Disk.disk c.recover_on.new.disk) c.args.site.now (g.met.D.Disk.lawful c.recover_on.new.disk) c.requires e.any_moment e.left e.still_told e.simulated e.faults.later }

@@ -12,14 +12,14 @@ pub returns-in_ok-write_mode-in-Ok-clause-done : goal.returns-in_ok-write_mode-i
 returns-in_ok-write_mode-in-Ok-clause-done g c =
     let e = c.in-Ok.ensures in
     there_done c.leftovers_hold.ensures c.args.region.now c.args.number c.args.before (g.D.Disk.disk c.args.disk.now) (g.D.Disk.disk c.set_mode_logged.new.disk) c.args.site.now c.args.text.now _
-    (record { lawful = g.met.D.Disk.lawful c.set_mode_logged.new.disk; there = c.requires.there; any_moment = e.any_moment; left = e.left; still_told = e.still_told; simulated = e.simulated; later = e.later })
+    (record { lawful = g.met.D.Disk.lawful c.set_mode_logged.new.disk; there = c.requires.there; any_moment = e.any_moment; left = e.left; still_told = e.still_told; simulated = e.simulated; later = e.faults.later })
     c.requires.named e.reads e.images (if_some (g.D.Disk.disk c.args.disk.now).content _ (SetBy c.args.region.now c.args.site.now.name) (λ f i. (c.args.log.records, i, (c.requires.called, c.requires.unset))) c.requires.told) (moded c.args.text.now c.args.before c.as_slice.ensures c.as_slice-in-Ok.ensures c.in_ok-write_mode-in-Ok.ensures)
 
 pub returns-in_err-write_mode-in-Ok-clause-cut_off : goal.returns-in_err-write_mode-in-Ok-clause-cut_off
 returns-in_err-write_mode-in-Ok-clause-cut_off g c =
     let e = c.in-Ok.ensures in
     err_holds c.from_residual.result _ (there_cut c.leftovers_hold.ensures c.args.region.now c.args.number c.args.before (g.D.Disk.disk c.args.disk.now) (g.D.Disk.disk c.set_mode_logged.new.disk) c.args.site.now
-    (record { lawful = g.met.D.Disk.lawful c.set_mode_logged.new.disk; there = c.requires.there; any_moment = e.any_moment; left = e.left; still_told = e.still_told; simulated = e.simulated; later = e.later }))
+    (record { lawful = g.met.D.Disk.lawful c.set_mode_logged.new.disk; there = c.requires.there; any_moment = e.any_moment; left = e.left; still_told = e.still_told; simulated = e.simulated; later = e.faults.later }))
 
 pub returns-in-Err-Failed-clause-done : goal.returns-in-Err-Failed-clause-done
 returns-in-Err-Failed-clause-done g c =
@@ -29,14 +29,14 @@ returns-in-Err-Failed-clause-done g c =
     let w = g.D.Disk.disk c.set_mode_logged.new.disk in
     on_failed c.fail.result c.fail.new.site _ _ (λ (x : Site) (done : Bool). SetsAt c.args.region.now c.args.before (g.D.Disk.disk c.args.disk.now) s w x c.args.text.now c.fail.new.text done) c.fail.ensures.failed (λ t.
     there_faulted c.leftovers_hold.ensures c.args.region.now c.args.number c.args.before (g.D.Disk.disk c.args.disk.now) w s _ c.args.text.now _
-    (record { lawful = g.met.D.Disk.lawful c.set_mode_logged.new.disk; there = c.requires.there; any_moment = e.any_moment; left = e.left; still_told = e.still_told; simulated = e.simulated; later = e.later })
-    (c.in-Err-Failed.fault-is ∙ e.count c.in-Err-Failed.fault is) (e.cause c.in-Err-Failed.fault is) t)
+    (record { lawful = g.met.D.Disk.lawful c.set_mode_logged.new.disk; there = c.requires.there; any_moment = e.any_moment; left = e.left; still_told = e.still_told; simulated = e.simulated; later = e.faults.later })
+    (c.in-Err-Failed.fault-is ∙ e.faults.count c.in-Err-Failed.fault is) (e.faults.cause c.in-Err-Failed.fault is) t)
 
 pub returns-in-Err-Failed-clause-cut_off : goal.returns-in-Err-Failed-clause-cut_off
 returns-in-Err-Failed-clause-cut_off g c =
     let e = c.in-Err-Failed.ensures in
     err_holds c.fail.result _ (there_cut c.leftovers_hold.ensures c.args.region.now c.args.number c.args.before (g.D.Disk.disk c.args.disk.now) (g.D.Disk.disk c.set_mode_logged.new.disk) c.args.site.now
-    (record { lawful = g.met.D.Disk.lawful c.set_mode_logged.new.disk; there = c.requires.there; any_moment = e.any_moment; left = e.left; still_told = e.still_told; simulated = e.simulated; later = e.later }))
+    (record { lawful = g.met.D.Disk.lawful c.set_mode_logged.new.disk; there = c.requires.there; any_moment = e.any_moment; left = e.left; still_told = e.still_told; simulated = e.simulated; later = e.faults.later }))
 
 pub returns-in-Err-NotAFile-clause-done : goal.returns-in-Err-NotAFile-clause-done
 returns-in-Err-NotAFile-clause-done g c =
@@ -45,14 +45,14 @@ returns-in-Err-NotAFile-clause-done g c =
     let offset = c.in-Err-NotAFile.offset in
     on_not_done c.damaged.result _ _ c.damaged.ensures (λ t.
     there_damaged c.args.region.now c.args.number c.args.before (g.D.Disk.disk c.args.disk.now) (g.D.Disk.disk c.set_mode_logged.new.disk) c.args.site.now file offset c.args.text.now _
-    (record { lawful = g.met.D.Disk.lawful c.set_mode_logged.new.disk; there = c.requires.there; any_moment = e.any_moment; left = e.left; still_told = e.still_told; simulated = e.simulated; later = e.later })
+    (record { lawful = g.met.D.Disk.lawful c.set_mode_logged.new.disk; there = c.requires.there; any_moment = e.any_moment; left = e.left; still_told = e.still_told; simulated = e.simulated; later = e.faults.later })
     (e.outside file offset (ap Err c.in-Err-NotAFile.field-0-is)) (not_a_file _ c.in-Err-NotAFile.file-is c.in-Err-NotAFile.offset-is c.as_slice-in-Err-NotAFile.ensures t))
 
 pub returns-in-Err-NotAFile-clause-cut_off : goal.returns-in-Err-NotAFile-clause-cut_off
 returns-in-Err-NotAFile-clause-cut_off g c =
     let e = c.in-Err-NotAFile.ensures in
     err_holds c.damaged.result _ (there_cut c.leftovers_hold.ensures c.args.region.now c.args.number c.args.before (g.D.Disk.disk c.args.disk.now) (g.D.Disk.disk c.set_mode_logged.new.disk) c.args.site.now
-    (record { lawful = g.met.D.Disk.lawful c.set_mode_logged.new.disk; there = c.requires.there; any_moment = e.any_moment; left = e.left; still_told = e.still_told; simulated = e.simulated; later = e.later }))
+    (record { lawful = g.met.D.Disk.lawful c.set_mode_logged.new.disk; there = c.requires.there; any_moment = e.any_moment; left = e.left; still_told = e.still_told; simulated = e.simulated; later = e.faults.later }))
 
 pub returns-in-Err : goal.returns-in-Err
 returns-in-Err g c =
@@ -61,5 +61,5 @@ returns-in-Err g c =
       ready = tt;
       done = tt;
       cut_off = there_cut c.leftovers_hold.ensures c.args.region.now c.args.number c.args.before (g.D.Disk.disk c.args.disk.now) (g.D.Disk.disk c.set_mode_logged.new.disk) c.args.site.now
-          (record { lawful = g.met.D.Disk.lawful c.set_mode_logged.new.disk; there = c.requires.there; any_moment = e.any_moment; left = e.left; still_told = e.still_told; simulated = e.simulated; later = e.later });
+          (record { lawful = g.met.D.Disk.lawful c.set_mode_logged.new.disk; there = c.requires.there; any_moment = e.any_moment; left = e.left; still_told = e.still_told; simulated = e.simulated; later = e.faults.later });
     }

@@ -15,14 +15,14 @@ pub returns-in_err-write_primary-in-Ok-clause-cut_off : goal.returns-in_err-writ
 returns-in_err-write_primary-in-Ok-clause-cut_off g c =
     let e = c.in-Ok.ensures in
     err_holds c.from_residual.result _ (reign_cut c.leftovers_hold.ensures (g.D.Disk.disk c.args.disk.now) (g.D.Disk.disk c.start_reign.new.disk) c.args.site.now c.args.opened
-    (record { lawful = g.met.D.Disk.lawful c.start_reign.new.disk; any_moment = e.any_moment; left = e.left; still_told = e.still_told; simulated = e.simulated; later = e.later }))
+    (record { lawful = g.met.D.Disk.lawful c.start_reign.new.disk; any_moment = e.any_moment; left = e.left; still_told = e.still_told; simulated = e.simulated; later = e.faults.later }))
 
 pub returns-in-Ok-clause-done : goal.returns-in-Ok-clause-done
 returns-in-Ok-clause-done g c =
     let e = c.in-Ok.ensures in
     let is_from : c.sequence_length-from.result + 1 ≡ count_of c.args.opened + 1 = ap (λ (k : ℕ). k + 1) (c.sequence_length-from.ensures ∙ ap entry_count e.entries) in
     reign_starts (g.D.Disk.disk c.args.disk.now) (g.D.Disk.disk c.start_reign.new.disk) c.nothing_is_left-in-Ok.ensures c.args.site.now c.args.opened c.start_reign.new.self c.in-Ok.stamp _ (c.sequence_length-from.result + 1) c.args.text.now _ (g.met.D.Disk.lawful c.start_reign.new.disk) refl
-    e.begun e.stamp e.remembered e.room e.simulated e.later is_from
+    e.begun e.stamp e.remembered e.room e.simulated e.faults.later is_from
     (named _ _ c.as_slice.ensures c.in_ok-write_primary-in-Ok.ensures)
 
 pub returns-in-Err-ReignLimit-clause-done : goal.returns-in-Err-ReignLimit-clause-done
@@ -39,7 +39,7 @@ pub returns-in-Err-ReignLimit-clause-cut_off : goal.returns-in-Err-ReignLimit-cl
 returns-in-Err-ReignLimit-clause-cut_off g c =
     let e = c.in-Err-ReignLimit.ensures in
     err_holds c.refuse.result _ (reign_cut c.leftovers_hold.ensures (g.D.Disk.disk c.args.disk.now) (g.D.Disk.disk c.start_reign.new.disk) c.args.site.now c.args.opened
-    (record { lawful = g.met.D.Disk.lawful c.start_reign.new.disk; any_moment = e.any_moment; left = e.left; still_told = e.still_told; simulated = e.simulated; later = e.later }))
+    (record { lawful = g.met.D.Disk.lawful c.start_reign.new.disk; any_moment = e.any_moment; left = e.left; still_told = e.still_told; simulated = e.simulated; later = e.faults.later }))
 
 pub returns-in-Err-Failed-clause-done : goal.returns-in-Err-Failed-clause-done
 returns-in-Err-Failed-clause-done g c =
@@ -49,14 +49,14 @@ returns-in-Err-Failed-clause-done g c =
     let w = g.D.Disk.disk c.start_reign.new.disk in
     on_failed c.fail.result c.fail.new.site _ _ (λ (x : Site) (done : Bool). BeginsAt (g.D.Disk.disk c.args.disk.now) c.args.opened s w x c.args.text.now c.fail.new.text done) c.fail.ensures.failed (λ t.
     reign_faulted c.leftovers_hold.ensures (g.D.Disk.disk c.args.disk.now) w s c.args.opened c.in-Err-Failed.fault c.args.text.now _
-    (record { lawful = g.met.D.Disk.lawful c.start_reign.new.disk; any_moment = e.any_moment; left = e.left; still_told = e.still_told; simulated = e.simulated; later = e.later })
-    (e.count c.in-Err-Failed.fault is) (e.cause c.in-Err-Failed.fault is) t)
+    (record { lawful = g.met.D.Disk.lawful c.start_reign.new.disk; any_moment = e.any_moment; left = e.left; still_told = e.still_told; simulated = e.simulated; later = e.faults.later })
+    (e.faults.count c.in-Err-Failed.fault is) (e.faults.cause c.in-Err-Failed.fault is) t)
 
 pub returns-in-Err-Failed-clause-cut_off : goal.returns-in-Err-Failed-clause-cut_off
 returns-in-Err-Failed-clause-cut_off g c =
     let e = c.in-Err-Failed.ensures in
     err_holds c.fail.result _ (reign_cut c.leftovers_hold.ensures (g.D.Disk.disk c.args.disk.now) (g.D.Disk.disk c.start_reign.new.disk) c.args.site.now c.args.opened
-    (record { lawful = g.met.D.Disk.lawful c.start_reign.new.disk; any_moment = e.any_moment; left = e.left; still_told = e.still_told; simulated = e.simulated; later = e.later }))
+    (record { lawful = g.met.D.Disk.lawful c.start_reign.new.disk; any_moment = e.any_moment; left = e.left; still_told = e.still_told; simulated = e.simulated; later = e.faults.later }))
 
 pub returns : goal.returns
 returns g c =
@@ -65,5 +65,5 @@ returns g c =
       ready = tt;
       done = tt;
       cut_off = reign_cut c.leftovers_hold.ensures (g.D.Disk.disk c.args.disk.now) (g.D.Disk.disk c.start_reign.new.disk) c.args.site.now c.args.opened
-          (record { lawful = g.met.D.Disk.lawful c.start_reign.new.disk; any_moment = e.any_moment; left = e.left; still_told = e.still_told; simulated = e.simulated; later = e.later });
+          (record { lawful = g.met.D.Disk.lawful c.start_reign.new.disk; any_moment = e.any_moment; left = e.left; still_told = e.still_told; simulated = e.simulated; later = e.faults.later });
     }

@@ -1,7 +1,7 @@
 use Rattle.std.proofs.Common.{arith, ap, ◌∙◌}
 use Rattle.gvn_key.specs.Terms.{update_value}
 use Rattle.global_defs.specs.Entry.{Globals, apply}
-use Rattle.site_regions.specs.Joined.{joined}
+use Rattle.region_store.specs.Joined.{joined}
 use Rattle.site_store.proofs.Nodes.{all_fit, one_too_many}
 use Rattle.site_store.proofs.fitting.check_each.Goals as goal
 

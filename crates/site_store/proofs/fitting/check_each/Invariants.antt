@@ -3,7 +3,7 @@ use Rattle.std.specs.FinMap.{len}
 use Rattle.global_defs.specs.Entry.{apply}
 use Rattle.global_defs.specs.Evaluation.{MOST_NODES}
 use Rattle.gvn_key.specs.Terms.{update_value}
-use Rattle.site_regions.specs.Joined.{joined}
+use Rattle.region_store.specs.Joined.{joined}
 use Rattle.site_store.proofs.fitting.check_each.Given as goal
 
 abbrev pub invariant-loop-update : goal.invariant-loop-update

@@ -1,5 +1,5 @@
 use Rattle.std.proofs.Common.{arith}
-use Rattle.site_regions.specs.Joined.{joined}
+use Rattle.region_store.specs.Joined.{joined}
 use Rattle.site_store.proofs.Nodes.{few_updates}
 use Rattle.site_store.proofs.fitting.check_room.Goals as goal
 

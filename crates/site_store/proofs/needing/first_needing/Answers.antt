@@ -1,6 +1,6 @@
 use Rattle.std.proofs.Common.{◌≡◌, List, Vec, Global, length, map, sym, ◌∙◌, ap, subst, arith}
 use Rattle.journal_defs.specs.Instance.{regions}
-use Rattle.jnl_index.specs.declared.placed.PlacedSign.{PlacedSign}
+use Rattle.entry_index.specs.declared.placed.PlacedSign.{PlacedSign}
 use Rattle.region_opening.specs.Signs.{AllSay}
 use Rattle.site_files.proofs.Writing.{if_ok}
 use Rattle.site_store.specs.Standing.{found_signs}

@@ -2,13 +2,13 @@ use Rattle.std.proofs.Common.{◌≡◌, ◌<◌, rules, List, Vec, Global, leng
 use Rattle.std.specs.List.{AllByRecursion}
 use Rattle.std.proofs.lemmas.Result.{err_from_is_err_and}
 use Rattle.global_defs.specs.Entry.{Sequence, state}
-use Rattle.jnl_index.specs.declared.placed.PlacedSign.{PlacedSign}
+use Rattle.entry_index.specs.declared.placed.PlacedSign.{PlacedSign}
 use Rattle.journal_defs.specs.Instance.{regions}
 use Rattle.journal_defs.specs.Sequence.{Records}
 use Rattle.journal_defs.specs.Fit.{IsSoundImage}
 use Rattle.entry_index.specs.Found.{AreFound}
 use Rattle.site_defs.specs.OutsideBlocks.{HaveOutsideBlocks}
-use Rattle.site_regions.specs.Joined.{Joined, joined}
+use Rattle.region_store.specs.Joined.{Joined, joined}
 use Rattle.site_store.specs.Standing.{IsOpenFor}
 use Rattle.site_store.proofs.Errors.{region_was}
 use Rattle.site_store.proofs.OnBlocks.{AreGoneBack, on_blocks, are_held}

@@ -4,13 +4,13 @@ use Rattle.std.proofs.Math.Seq.{take-length}
 use Rattle.std.proofs.lemmas.Result.{err_from_is_err_and}
 use Rattle.disk_defs.proofs.Told.{weaker_told}
 use Rattle.global_defs.specs.Entry.{Sequence, state}
-use Rattle.jnl_index.specs.declared.placed.PlacedSign.{PlacedSign}
+use Rattle.entry_index.specs.declared.placed.PlacedSign.{PlacedSign}
 use Rattle.journal_defs.specs.Instance.{regions}
 use Rattle.journal_defs.specs.Sequence.{Records}
 use Rattle.journal_defs.specs.Fit.{IsSoundImage}
 use Rattle.entry_index.specs.Found.{AreFound, entry_count}
 use Rattle.entry_index.proofs.AmongLaws.{counted}
-use Rattle.site_regions.specs.Joined.{Joined, joined}
+use Rattle.region_store.specs.Joined.{Joined, joined}
 use Rattle.site_store.specs.Standing.{IfFound, IsOpenAs, found_signs}
 use Rattle.site_store.proofs.Errors.{region_was}
 use Rattle.site_store.proofs.OnBlocks.{on_files, are_held}

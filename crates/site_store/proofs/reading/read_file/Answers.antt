@@ -22,5 +22,5 @@ loop-at-preserved g c =
       text = one_piece u.content v.content c.args.file l.at c.min-count.result c.args.out.now l.out c.read_piece.new.out inv.reads.content inv.text c.in_ok-read_piece.ensures.bytes;
       front = further c.args.out.now l.out c.read_piece.new.out inv.front c.in_ok-read_piece.ensures.front;
       reads = reads_more u v w (g.met.D.Disk.lawful c.args.disk.now) inv.reads reads;
-      faults = (let later = c.read_piece.ensures.later in omega (arith, inv.faults, later));
+      faults = (let later = c.read_piece.ensures.faults.later in omega (arith, inv.faults, later));
     }

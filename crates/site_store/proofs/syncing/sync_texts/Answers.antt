@@ -37,5 +37,5 @@ loop-earlier-preserved g c =
       content = call.content ∙ inv.content;
       moments = nothing_new u v w (Image u) (g.met.D.Disk.lawful l.disk) inv.moments call.any_moment;
       simulated = call.simulated ∙ inv.simulated;
-      faults = omega (arith, inv.faults, call.later);
+      faults = omega (arith, inv.faults, call.faults.later);
     }

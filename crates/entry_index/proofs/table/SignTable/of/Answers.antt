@@ -1,5 +1,5 @@
 use Rattle.std.proofs.Common.{◌+◌, List, get_or, Option, None, ◌∙◌, ap, arith}
-use Rattle.entry_index.specs.declared.sign.PartSign.{PartSign}
+use Rattle.entry_index.specs.declared.signed_part.PartSign.{PartSign}
 use Rattle.entry_index.specs.Signs.{last_sign}
 use Rattle.mupip_recover.proofs.Columns.{all_seen}
 use Rattle.entry_index.proofs.Columns.{by_region}

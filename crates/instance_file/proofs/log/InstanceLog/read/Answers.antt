@@ -2,7 +2,7 @@ use Rattle.std.proofs.Common.{rules, inl, inr, ℕ, List, IfSome, subst}
 use Rattle.disk_defs.specs.Disk.{Image}
 use Rattle.disk_defs.proofs.Told.{weaker_told, told_at}
 use Rattle.disk_defs.proofs.Moments.{nothing_new, read_only}
-use Rattle.site_defs.specs.OutsideGates.{IsOutside}
+use Rattle.disk_defs.specs.OutsideGates.{IsOutside}
 use Rattle.journal_defs.specs.Numbers.{INSTANCE}
 use Rattle.journal_defs.specs.Instance.{InstanceRecord}
 use Rattle.journal_defs.specs.Stands.{IsInstance}

@@ -5,7 +5,7 @@ use Rattle.disk_defs.proofs.Told.{weaker_told}
 use Rattle.disk_defs.proofs.Moments.{nothing_new, read_only}
 use Rattle.disk_defs.proofs.Frames.{others_read, others_then}
 use Rattle.gated_file.specs.Begin.{KeepsRecords}
-use Rattle.site_defs.specs.OutsideGates.{IsOutside}
+use Rattle.disk_defs.specs.OutsideGates.{IsOutside}
 use Rattle.gated_file.specs.declared.gated.Gated.{Gated}
 use Rattle.journal_defs.specs.Journal.{JournalRecord}
 use Rattle.jnl_file.specs.Records.{Recorded, settled}

@@ -46,7 +46,7 @@ loop-what-preserved g c =
       logged = one_more u v w rs c.loop-what.what-index c.what-item.result x y c.log.new.self c.loop-what-test.true c.what-item.is inv.logged c.in_ok-log.ensures.all;
       moments = λ hard waiting has. stands_then u v w x.journal.gated.file y.journal.gated.file hard (g.met.D.Disk.lawful c.loop-what.disk) inv.logged.same.file (inv.moments hard waiting has) (call.any_moment hard _ (inv.logged.state hard waiting has));
       frame = others_then (Only x.journal.gated.file) u v w inv.frame (subst (λ (file : ℕ). OthersStay (Only file) v w) inv.logged.same.file call.frame);
-      faults = omega (arith, inv.faults, call.later);
+      faults = omega (arith, inv.faults, call.faults.later);
     }
 
 pub returns-in_err-log-clause-fewer : goal.returns-in_err-log-clause-fewer

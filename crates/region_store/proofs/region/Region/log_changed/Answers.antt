@@ -40,7 +40,7 @@ loop-number-preserved g c =
       logged = logged_more (view c.args.disk.now).content (view l.disk).content s numbers l.number-index x first old new
           c.loop-number-test.true refl l.invariant.reads.content (logged_one (view l.disk).content s x old new dirty c.in_ok-log_image.ensures.logged) l.invariant.logged;
       reads = reads_more (view c.args.disk.now) (view l.disk) (view c.log_image.new.disk) (g.met.D.Disk.lawful c.args.disk.now) l.invariant.reads c.log_image.ensures.reads;
-      faults = omega (arith, l.invariant.faults, c.log_image.ensures.later);
+      faults = omega (arith, l.invariant.faults, c.log_image.ensures.faults.later);
     }
 
 pub returns-clause-logged : goal.returns-clause-logged

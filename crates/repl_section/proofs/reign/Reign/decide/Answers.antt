@@ -7,7 +7,7 @@ use Rattle.repl_section.proofs.Standing.{stays_at}
 use Rattle.repl_section.proofs.Room.{eval_fits}
 use Rattle.repl_section.proofs.Results.{if_ok}
 use Rattle.repl_section.proofs.reign.Reign.decide.Goals as goal
-use Rattle.site_regions.specs.Joined.{joined}
+use Rattle.region_store.specs.Joined.{joined}
 
 pub returns-clause-done : goal.returns-clause-done
 returns-clause-done g c =

@@ -139,7 +139,7 @@ loop-updater-preserved g c =
           refl next (c.in-Ok.ensures.done told (with_sequence x t.sequence) h.reached.reigns) c.settle.ensures.stamp (g.met.S.ReplySink.further c.args.sink.now at.sink c.settle.new.sink));
       stamp = c.settle.ensures.stamp ∙ at.invariant.stamp;
       simulated = c.settle.ensures.simulated ∙ at.invariant.simulated;
-      later = omega (arith, at.invariant.later, c.settle.ensures.later);
+      later = omega (arith, at.invariant.later, c.settle.ensures.faults.later);
     }
 
 pub returns-clause-done : goal.returns-clause-done

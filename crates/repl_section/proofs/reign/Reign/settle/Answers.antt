@@ -8,7 +8,7 @@ use Rattle.repl_section.specs.Deciding.{outcome}
 use Rattle.repl_section.proofs.Replied.{still_may_have, still_leaves}
 use Rattle.repl_section.proofs.Settled.{quiet_or_appends, not_both, named_appends, settled, stands_quietly, settled_may_have, settled_leaves}
 use Rattle.repl_section.proofs.reign.Reign.settle.Goals as goal
-use Rattle.site_regions.specs.Joined.{joined}
+use Rattle.region_store.specs.Joined.{joined}
 
 pub returns-in_err-decision-clause-may_have : goal.returns-in_err-decision-clause-may_have
 returns-in_err-decision-clause-may_have g c x r = still_may_have (g.D.Disk.disk c.decide.new.disk) x _ (c.decide.ensures.stands x (length x.sequence) r)

@@ -1,7 +1,7 @@
 use Rattle.std.proofs.Common.{refl, ◌∙◌, arith}
 use Rattle.gvn_model.specs.Entries.{transaction_value}
 use Rattle.journal_defs.specs.Instance.{generation}
-use Rattle.site_regions.proofs.Making.{changed_none}
+use Rattle.region_store.proofs.Making.{changed_none}
 use Rattle.site_store.proofs.Committed as committed
 use Rattle.site_store.proofs.Places.{counts_places}
 use Rattle.site_store.proofs.Standing.{still}

@@ -30,7 +30,7 @@ loop-update-preserved g c =
       logged = logging.logged_then u v w c.args.self.now l.self c.log_touched.new.self inv.logged got.logged;
       moments = logging.moments_then u v w c.args.self.now l.self inv.moments inv.logged call.moments;
       frame = logging.frame_then u v w c.args.self.now l.self inv.logged.same inv.frame call.frame;
-      faults = omega (arith, inv.faults, call.later);
+      faults = omega (arith, inv.faults, call.faults.later);
     }
 
 pub returns-in_err-log_touched-clause-goes_on : goal.returns-in_err-log_touched-clause-goes_on

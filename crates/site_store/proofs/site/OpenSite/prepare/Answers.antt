@@ -1,7 +1,7 @@
 use Rattle.std.proofs.Common.{ℕ, ◌<◌, refl, sym, subst, arith}
 use Rattle.std.specs.Prelude.{◌^◌}
 use Rattle.site_store.proofs.Places.{counts_places, whole_places, same_count, same_whole}
-use Rattle.site_regions.proofs.Making.{changed_none}
+use Rattle.region_store.proofs.Making.{changed_none}
 use Rattle.site_store.proofs.Committed as committed
 use Rattle.site_store.proofs.site.OpenSite.prepare.Goals as goal
 

@@ -1,6 +1,6 @@
 use Rattle.std.proofs.Common.{refl, ap}
 use Rattle.block_laws.specs.Nodes.{union}
-use Rattle.site_regions.proofs.Making.{changed_then}
+use Rattle.region_store.proofs.Making.{changed_then}
 use Rattle.site_store.proofs.Errors.{on_err}
 use Rattle.site_store.proofs.HeldRegions.{nodes_same}
 use Rattle.site_store.proofs.Places.{same_self}

@@ -1,0 +1,64 @@
+use Rattle.std.proofs.Common.{rules, ◌≡◌, ◌<◌, ◌∙◌, length, set, get_or, IsTrue, refl, sym, subst, arith}
+use Rattle.std.proofs.lemmas.List.{length-set}
+use Rattle.disk_defs.proofs.Frames.{reads_more}
+use Rattle.disk_defs.proofs.Told.{told_at, both_weak}
+use Rattle.jnl_file.proofs.Newer.{all_told}
+use Rattle.entry_index.specs.Cursors.{IsOnWay, ReadsOn, ReadsOnBy, AllReadOnBy}
+use Rattle.entry_index.specs.declared.cursor.Cursor.{Cursor}
+use Rattle.entry_index.proofs.Cursors.{ready_on}
+use Rattle.entry_index.proofs.SideBySide.{ready_at, ready_own, ready_set, on_none, on_then, on_one}
+use Rattle.entry_index.proofs.side_by_side.read_all_on.Goals as goal
+
+pub read_on-requires-clause-ready : goal.read_on-requires-clause-ready
+read_on-requires-clause-ready g c =
+    let o = (g.D.Disk.disk c.loop-place.disk).content in
+    let l = c.loop-place in
+    let x = c.index_mut.result.now in
+    let last = c.requires.ready.0 in
+    let inside : l.place < length l.cursors.items = omega (arith, l.invariant.many) in
+    ready_own o last l.place x.reader (ready_at o last l.place l.cursors.items x inside c.index_mut.ensures.value (l.invariant.ready last c.requires.ready.1))
+
+pub loop-place-init : goal.loop-place-init
+loop-place-init g c =
+    let o = (g.D.Disk.disk c.args.disk.now).content in
+    let cs = c.args.cursors.now.items in
+    record {
+      many = refl;
+      ready = λ last ready. ready;
+      read = all_told o (AllReadOnBy c.args.cuts.now c.args.low cs cs) (λ files instance cuts n low most journal way. on_none files instance n c.args.low cs journal way);
+      reads = search rules;
+      faults = omega arith;
+    }
+
+pub loop-place-preserved : goal.loop-place-preserved
+loop-place-preserved g c =
+    let view = g.D.Disk.disk in
+    let a = c.args in
+    let l = c.loop-place in
+    let inv = l.invariant in
+    let u = view a.disk.now in
+    let v = view l.disk in
+    let w = view c.read_on.new.disk in
+    let old = a.cursors.now.items in
+    let cs = l.cursors.items in
+    let i = l.place in
+    let x = c.index_mut.result.now in
+    let y = c.read_on.new.self in
+    let call = c.in_ok-read_on.ensures in
+    let more : IsTrue c.in_ok-read_on.field-0 = c.if-not-branch.false in
+    let inside : i < length cs = omega (arith, inv.many) in
+    let is : x ≡ get_or cs i x = c.index_mut.ensures.value in
+    record {
+      many = length-set cs i y ∙ inv.many;
+      ready = λ last start.
+          let ready = inv.ready last start in
+          let here = ready_at v.content last i cs x inside is ready in
+          ready_set v.content w.content last cs i y c.read_on.ensures.reads.content ready (ready_on w.content v.content i last x.reader y.reader here (call.ready more));
+      read = both_weak u.content (AllReadOnBy a.cuts.now a.low old cs) (ReadsOnBy a.cuts.now a.low x y) (AllReadOnBy a.cuts.now a.low old (set cs i y)) inv.read
+          (told_at u.content v.content (ReadsOnBy a.cuts.now a.low x y) inv.reads.content (call.read more))
+          (λ files so_far step instance cuts n low most journal way.
+          on_then files instance n a.low old cs (set cs i y) journal (so_far instance cuts n low most journal way)
+          (λ now at. on_one files n cs now at i y inside instance a.low x (subst (λ (z : Cursor). ReadsOn files instance n a.low z y (now i)) is (step instance cuts n low most (now i) (subst (λ (z : Cursor). IsOnWay files n z (now i)) (sym is) (at.each i x inside))))));
+      reads = reads_more u v w (g.met.D.Disk.lawful a.disk.now) inv.reads call.reads;
+      faults = omega (arith, inv.faults, c.read_on.ensures.faults.later);
+    }

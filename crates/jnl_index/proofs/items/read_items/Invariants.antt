@@ -1,6 +1,0 @@
-use Rattle.jnl_index.proofs.ItemLists.{Passed}
-use Rattle.jnl_index.proofs.items.read_items.Given as goal
-
--- so many items were passed over, whose positions lie so
-abbrev pub invariant-loop : goal.invariant-loop
-invariant-loop l = Passed l.n l.count l.bytes l.counter l.low l.span l.rest

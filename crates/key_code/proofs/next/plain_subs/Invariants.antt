@@ -1,5 +1,0 @@
-use Rattle.key_code.proofs.Behind.{AreReadTo}
-use Rattle.key_code.proofs.next.plain_subs.Given as goal
-
-abbrev pub invariant-loop : goal.invariant-loop
-invariant-loop l = AreReadTo l.bytes l.end l.counter l.at l.seen

@@ -1,7 +1,0 @@
-use Rattle.std.proofs.Common.{sym, subst, ◌∷◌}
-use Rattle.key_code.specs.Plain.{BeginWithSub}
-use Rattle.key_code.proofs.Parts.{nought_begins}
-use Rattle.key_code.proofs.plain.sub_behind.Goals as goal
-
-pub returns-in-2-clause-sub : goal.returns-in-2-clause-sub
-returns-in-2-clause-sub c = subst (λ k. BeginWithSub 1 (k ∷ c.args.bytes.now)) (sym c.in-2.is) (nought_begins c.args.bytes.now)

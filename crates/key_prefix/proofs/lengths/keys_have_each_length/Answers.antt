@@ -1,8 +1,0 @@
-use Rattle.key_prefix.proofs.Taking.{code_length, each_length}
-use Rattle.key_prefix.proofs.lengths.keys_have_each_length.Goals as goal
-
-pub returns-clause-bounds : goal.returns-clause-bounds
-returns-clause-bounds c = code_length
-
-pub returns-clause-each : goal.returns-clause-each
-returns-clause-each c = each_length

@@ -1,0 +1,39 @@
+use Rattle.std.proofs.Common.{◌≡◌, ◌<◌, subst, length, sym, ap, slice_get, Some}
+use Rattle.std.specs.Prelude.{ℕ, List}
+use Rattle.journal_defs.specs.Epochs.{Chosen}
+use Rattle.block_laws.specs.Several.{logged_all}
+use Rattle.before_image.specs.Images.{placed_images}
+use Rattle.region_store.specs.Region.{Standing, HoldsRegion, changed_images}
+use Rattle.region_store.specs.Joined.{Joined}
+use Rattle.region_store.proofs.Lists.{read_at}
+use Rattle.region_store.proofs.Making.{kept_nodes, lifted, same_elsewhere}
+use Rattle.region_store.proofs.regions.Regions.mark_logged.Goals as goal
+
+pub invariant_of-self : goal.invariant_of-self
+invariant_of-self c =
+    let i = c.self.inside in
+    let n = c.args.number in
+    let s = c.index_mut.result.now in
+    let inside : n < length i.regions.items = subst (λ (j : Joined). n < length j.regions) (sym c.self.view_is) c.requires.inside in
+    let here : slice_get i.regions.items n ≡ Some s = read_at i.regions.items n s inside c.index_mut.ensures.value in
+    kept_nodes i n s c.mark_logged.new.self here (ap (λ (x : Standing). x.globals) c.mark_logged.ensures.marks) c.self.invariant
+
+pub returns-clause-same : goal.returns-clause-same
+returns-clause-same c =
+    let i = c.self.inside in
+    let n = c.args.number in
+    let s = c.index_mut.result.now in
+    let inside : n < length i.regions.items = subst (λ (j : Joined). n < length j.regions) (sym c.self.view_is) c.requires.inside in
+    let here : slice_get i.regions.items n ≡ Some s = read_at i.regions.items n s inside c.index_mut.ensures.value in
+    same_elsewhere i c.args.self.now c.self.view_is n s c.mark_logged.new.self here (ap (λ (x : Standing). x.globals) c.mark_logged.ensures.marks)
+
+pub returns-clause-holds : goal.returns-clause-holds
+returns-clause-holds c =
+    let i = c.self.inside in
+    let n = c.args.number in
+    let s = c.index_mut.result.now in
+    let inside : n < length i.regions.items = subst (λ (j : Joined). n < length j.regions) (sym c.self.view_is) c.requires.inside in
+    let here : slice_get i.regions.items n ≡ Some s = read_at i.regions.items n s inside c.index_mut.ensures.value in
+    lifted i c.args.self.now c.self.view_is n s c.mark_logged.new.self here
+    (λ x y. (e : Chosen) (bytes : List ℕ) (g : ℕ) → HoldsRegion e bytes x → HoldsRegion (logged_all e (placed_images g (changed_images x bytes))) bytes y)
+    c.mark_logged.ensures.holds

@@ -1,8 +1,0 @@
-use Rattle.std.proofs.Common.{◌≡◌, map}
-use Rattle.gvt_leaf.specs.Listed.{node_value}
-use Rattle.site_regions.proofs.Sharing.{of_first}
-use Rattle.site_regions.proofs.regions.Regions.list.Given as goal
-
--- the nodes of the regions so far
-abbrev pub invariant-loop-region : goal.invariant-loop-region
-invariant-loop-region l = map node_value l.all.items ≡ of_first l.self l.region-index

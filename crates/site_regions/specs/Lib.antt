@@ -1,4 +1,0 @@
-pub mod Joined
-pub mod Counts
-pub mod Inside
-pub mod Merged
