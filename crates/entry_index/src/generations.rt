@@ -54,6 +54,7 @@ pub(crate) fn may_join(
 }
 
 /// What the record says behind the gate at a place, and the next gate's place, or `None` at a closed gate.
+#[inline(always)]
 pub(crate) fn find_sign<D: Disk>(
     pieces: &mut Pieces,
     disk: &mut D,
