@@ -51,8 +51,7 @@ fn body_of(rt: &impl Abort, alloc: Global, part: &Worked) -> Bytes {
 
 /// Writes a file from its start.
 fn write_bytes<D: Disk>(rt: &impl Abort, disk: &mut D, file: u32, bytes: &[u8]) {
-    disk.room(file, 2, bytes.len() as u64 + 1)
-        .expect(rt, "memory");
+    disk.room(file, 1, bytes.len() as u64).expect(rt, "memory");
     disk.write_at(file, 0, bytes).expect(rt, "a write");
 }
 
@@ -115,10 +114,10 @@ impl Journal {
             .push_all(&long.to_be_bytes())
             .expect(rt, "memory");
         self.bytes.push_all(body.as_slice()).expect(rt, "memory");
+        let mut whole = Bytes::of(alloc, self.bytes.as_slice()).expect(rt, "memory");
+        whole.push(0).expect(rt, "memory");
         let file = journal_file(region, generation);
-        write_bytes(rt, disk, file, self.bytes.as_slice());
-        let end = self.bytes.len() as u64;
-        disk.write_at(file, end, &[0]).expect(rt, "a write");
+        write_bytes(rt, disk, file, whole.as_slice());
         let what = decode(alloc, body.as_slice(), offset).expect(rt, "a record");
         let sign = read_sign(body.as_slice()).expect(rt, "a sign");
         let record = PlacedRecord { generation, what };
