@@ -219,6 +219,12 @@ chosen false o s is = absurd (cc is)
 pub placed_is : (p : PlacedSign) (s : PartSign) → part_sign_in p ≡ Some s → placed_by s ≡ p
 placed_is p s is = placed_said p.generation p.offset p.sign s (chosen (nat_le 1 p.generation && nat_le p.generation 65535) (part_said p.generation p.offset p.sign) s is)
 
+-- what the sign of a drawn part says is that part
+pub said_part : (files : Files) (region : ℕ) (s : PartSign) (x : Placed) → IsDrawn x → IsSignOf files region (placed_by s) x → Some s ≡ part_sign_in (placed_by s)
+said_part files region s x (least, most) sign =
+    let yes : (nat_le 1 s.place.generation && nat_le s.place.generation 65535) ≡ true = grind (arith, nat_tests, sign.generation, least, most) in
+    sym (ap (λ (b : Bool). if b then Some s else None) yes)
+
 -- a record more is taken in
 module _ (files : Files) (instance : List InstanceRecord) (n low : ℕ) (new : Cursor) (journal : List Placed) (placed : PlacedSign) (x : Placed) (drawn : IsDrawn x) (sign : IsSignOf files new.reader.region placed x) where
   tells_this : (o : Option PartSign) → part_sign_in placed ≡ o → (m : ℕ) → IsSign files new.reader.region m (if_numbered m (if_surviving instance placed.generation o)) (part_in instance m x.generation x.what)

@@ -9,7 +9,8 @@ use Rattle.journal_defs.specs.Stands.{IsJournal, in_generation}
 use Rattle.jnl_record.specs.Values.{record_value}
 use Rattle.jnl_file.specs.Reading.{IsNoRecord}
 use Rattle.jnl_file.specs.Generations.{HasNewer, StopsAt, MayJoin as RecordJoins}
-use Rattle.jnl_file.proofs.Newer.{Reached, reached_start, reached_next, reached_end, reached_none, reached_refused}
+use Rattle.jnl_file.specs.Newer.{Reached}
+use Rattle.jnl_file.proofs.Newer.{reached_start, reached_next, reached_end, reached_none, reached_refused}
 use Rattle.jnl_file.proofs.Zips.{zip_append, zip_length}
 use Rattle.site_defs.specs.OutsideJournal.{IsOutsideAfter, IsOutsideGenerations}
 use Rattle.entry_index.specs.RecordSigns.{sign_of}

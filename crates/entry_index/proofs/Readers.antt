@@ -1,5 +1,6 @@
 -- Where a reader of a region's journals is.
-use Rattle.std.proofs.Common.{◌≡◌, ℕ, suc, ◌+◌, ◌≤◌, ◌<◌, nat_eq, List, [], ◌∷◌, ◌++◌, length, map, sum_by, Some, None, refl, sym, ◌∙◌, ap, subst, arith}
+use Rattle.std.proofs.Common.{◌≡◌, ℕ, suc, ◌+◌, ◌≤◌, ◌<◌, nat_eq, Bool, false, List, [], ◌∷◌, ◌++◌, length, map, sum_by, Some, None, refl, sym, ◌∙◌, ap, subst, arith}
+use Rattle.std.proofs.lemmas.Bool.Decides.{nat_tests}
 use Rattle.disk_defs.specs.Disk.{Files}
 use Rattle.disk_defs.specs.Gates.{spelled}
 use Rattle.journal_defs.specs.Numbers.{journal_file}
@@ -8,14 +9,20 @@ use Rattle.journal_defs.specs.Sequence.{Placed}
 use Rattle.journal_defs.specs.Stands.{IsJournal, in_generation}
 use Rattle.jnl_record.specs.Values.{record_value}
 use Rattle.jnl_file.specs.Generations.{HasNewer}
-use Rattle.jnl_file.proofs.Newer.{Reached, reached_start, reached_next, reached_end}
-use Rattle.entry_index.specs.Cursors.{IsAt, IsNextRecord}
+use Rattle.jnl_file.specs.Newer.{Reached}
+use Rattle.jnl_file.proofs.Newer.{reached_start, reached_next, reached_end}
+use Rattle.entry_index.specs.Cursors.{IsAt, IsNextRecord, placed_by}
 use Rattle.entry_index.specs.Generations.{MayJoin}
 use Rattle.entry_index.specs.Order.{bytes_in, size_of}
-use Rattle.entry_index.specs.Pieces.{FindsSign}
+use Rattle.entry_index.specs.Pieces.{FindsSign, IsBodyOf}
+use Rattle.entry_index.specs.Telling.{TellsSign}
+use Rattle.entry_index.specs.declared.place.PartPlace.{PartPlace}
+use Rattle.entry_index.specs.declared.placed.PlacedSign.{PlacedSign}
+use Rattle.entry_index.specs.declared.signed_part.PartSign.{PartSign}
 use Rattle.entry_index.specs.declared.reader.Reader.{Reader}
 use Rattle.entry_index.specs.declared.sign.Sign.{Sign}
 use Rattle.entry_index.proofs.Indexing.{join_of}
+use Rattle.entry_index.proofs.Stands.{sign_found}
 use Rattle.entry_index.proofs.Order.{bytes_append, bytes_own, older_bytes, spelled_size}
 
 -- before all records
@@ -70,6 +77,17 @@ module _ (files : Files) (p q : Reader) (journal : List Placed) (inside : p.gene
           past = λ late. absurd (omega (arith, late, inside));
         });
       }
+
+  -- past a part, by its body
+  pub at_part : (body : List ℕ) (s : PartSign) → p.generation ≤ 65535 → IsBodyOf file p.at body → TellsSign body (Some (placed_by s).sign) → s.place ≡ record { generation = p.generation; offset = p.at } → (p.at ≡ 0 → ⊥)
+      → q ≡ record p { at = p.at + 5 + length body; began = p.generation } → IsNextRecord files p.region q journal (placed_by s)
+  at_part body s most of tells place later same =
+      let sign : Sign = (placed_by s).sign in
+      let found : FindsSign file p.at (Some (sign, p.at + 5 + length body)) = sign_found file p.at (length body) of.has body of.shown sign tells in
+      let no : nat_eq p.at 0 ≡ false = grind (arith, nat_tests, later) in
+      let may : MayJoin (nat_eq p.at 0) p.region p.generation p.previous sign = subst (λ (b : Bool). MayJoin b p.region p.generation p.previous sign) (sym no) tt in
+      let here : record { generation = p.generation; offset = p.at; sign = sign } ≡ placed_by s = ap (λ (x : PartPlace). record { generation = x.generation; offset = x.offset; sign = sign }) (sym place) in
+      subst (λ (x : PlacedSign). IsNextRecord files p.region q journal x) here (at_next sign (p.at + 5 + length body) most found may same)
 
   -- at the start of the next journal
   pub at_turn : FindsSign file p.at None → q.region ≡ p.region → q.last ≡ p.last → q.generation ≡ p.generation + 1 → q.previous ≡ p.began → q.began ≡ p.began → q.at ≡ 0 → IsAt files q journal

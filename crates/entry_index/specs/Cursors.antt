@@ -8,7 +8,7 @@ use Rattle.journal_defs.specs.Numbers.{journal_file}
 use Rattle.journal_defs.specs.Sequence.{Placed, Records, part_in, part_of, entry, EntriesFrom}
 use Rattle.journal_defs.specs.Stands.{IsJournal}
 use Rattle.journal_defs.specs.Surviving.{reigns}
-use Rattle.jnl_file.proofs.Newer.{Reached}
+use Rattle.jnl_file.specs.Newer.{Reached}
 use Rattle.mupip_recover.specs.Cuts.{AreCuts}
 use Rattle.mupip_recover.specs.Stamps.{AreStarts}
 use Rattle.mupip_recover.specs.declared.cuts.Cuts.{Cuts}

@@ -8,7 +8,7 @@ ghost use Rattle.entry_index.specs.Completing.{IsAlone, place_told};
 ghost use Rattle.entry_index.specs.Order.{bytes_in};
 ghost use Rattle.entry_index.specs.Places.{IsSignOf};
 ghost use Rattle.entry_index.specs.Signs.{if_numbered};
-ghost use Rattle.entry_index.specs.Cursors.{IsDrawn, IsReady, IsOnWay, IsTold, IsDone, IsSameRegion, Keeps, Takes, ReadsOnBy, ReadsOutBy, Settles, left};
+ghost use Rattle.entry_index.specs.Cursors.{IsDrawn, IsReady, IsOnWay, IsTold, IsDone, IsSameRegion, Keeps, Takes, ReadsOnBy, ReadsOutBy, Settles, left, placed_by};
 
 use crate::completing::is_alone;
 use crate::error::IndexError;
@@ -57,20 +57,17 @@ impl Cursor {
         })
     }
 
-    /// Takes in what a record says: a part of a surviving entry waits. Answers false where its number isn't past `low`.
-    fn take(&mut self, cuts: &Cuts, low: u64, placed: PlacedSign) -> Result<bool, NoMemory>
+    /// Takes in what the sign of a part says: a part of a surviving entry waits. Answers false where its number isn't past `low`.
+    #[inline(always)]
+    fn take_part(&mut self, cuts: &Cuts, low: u64, part: PartSign) -> Result<bool, NoMemory>
         requires cuts { (rs : List instances.InstanceRecord) × AreCuts rs cuts.now }
         requires none { self.old.waiting ≡ None }
         ensures taken { IfOk result (λ more. IsTrue more → (files : Files) (instance : List instances.InstanceRecord) → AreCuts instance cuts.now → (n : ℕ) → n ≤ low → low ≤ n + 1
-            → (journal : List Placed) (x : Placed) → IsDrawn x → IsSignOf files self.old.reader.region placed x → placed.offset ≡ bytes_in placed.generation journal → Keeps files self.old.reader.region n self.old.kept journal
+            → (journal : List Placed) (x : Placed) → IsDrawn x → IsSignOf files self.old.reader.region (placed_by part) x → part.place.offset ≡ bytes_in part.place.generation journal → Keeps files self.old.reader.region n self.old.kept journal
             → Takes files instance n low self.new journal x) }
         ensures same { self.new.reader ≡ self.old.reader }
     {
-        let Some(part) = part_sign(&placed) else {
-            self.kept.keep(placed)?;
-            return Ok(true);
-        };
-        if !cuts.spare(placed.generation, part.number) {
+        if !cuts.spare(part.place.generation, part.number) {
             self.kept.keep_part(&part, part.number < low)?;
             return Ok(true);
         }
@@ -81,8 +78,27 @@ impl Cursor {
         Ok(true)
     }
 
-    /// Reads one record, or goes on to the next journal at a closed gate. Answers false where no record can be, too.
-    fn step<D: Disk>(
+    /// Takes in what a record says, as [`Cursor::take_part`] does.
+    fn take(&mut self, cuts: &Cuts, low: u64, placed: PlacedSign) -> Result<bool, NoMemory>
+        requires cuts { (rs : List instances.InstanceRecord) × AreCuts rs cuts.now }
+        requires none { self.old.waiting ≡ None }
+        ensures taken { IfOk result (λ more. IsTrue more → (files : Files) (instance : List instances.InstanceRecord) → AreCuts instance cuts.now → (n : ℕ) → n ≤ low → low ≤ n + 1
+            → (journal : List Placed) (x : Placed) → IsDrawn x → IsSignOf files self.old.reader.region placed x → placed.offset ≡ bytes_in placed.generation journal → Keeps files self.old.reader.region n self.old.kept journal
+            → Takes files instance n low self.new journal x) }
+        ensures same { self.new.reader ≡ self.old.reader }
+    {
+        match part_sign(&placed) {
+            Some(part) => self.take_part(cuts, low, part),
+            None => {
+                self.kept.keep(placed)?;
+                Ok(true)
+            }
+        }
+    }
+
+    /// Reads one record by the disk, or goes on to the next journal at a closed gate. Answers false where no record can be, too.
+    #[inline(never)]
+    fn step_on<D: Disk>(
         &mut self,
         alloc: Global,
         disk: &mut D,
@@ -104,6 +120,31 @@ impl Cursor {
             Step::Read(placed) => Ok(self.take(cuts, low, placed)?),
             Step::Turned => Ok(true),
             Step::NoRecord => Ok(false),
+        }
+    }
+
+    /// The same, but by what is at hand where that has a part.
+    fn step<D: Disk>(
+        &mut self,
+        alloc: Global,
+        disk: &mut D,
+        cuts: &Cuts,
+        low: u64,
+    ) -> Result<bool, IndexError>
+        requires cuts { (rs : List instances.InstanceRecord) × AreCuts rs cuts.now }
+        requires none { self.old.waiting ≡ None }
+        requires inside { self.old.reader.generation ≤ self.old.reader.last }
+        requires ready { IsReady (D.disk disk.old).content self.old.reader.region self.old.reader.last self.old.reader }
+        ensures read { IfOk result (λ more. IsTrue more → IfSome (D.disk disk.old).content (ReadsOnBy cuts.now low self.old self.new)) }
+        ensures ready { IfOk result (λ more. IsTrue more → IsReady (D.disk disk.new).content self.old.reader.region self.old.reader.last self.new.reader) }
+        ensures further { IfOk result (λ more. IsTrue more → left self.new.reader < left self.old.reader) }
+        ensures never { (file offset : ℕ) → IsErrOf result (IndexError.NotAFile file offset) → ⊥ }
+        ensures reads { Reads (D.disk disk.old) (D.disk disk.new) }
+        ensures faults { MayFailUncounted (D.disk disk.old).faults (D.disk disk.new).faults (IsErrOf result IndexError.Failed) }
+    {
+        match self.reader.pass_part() {
+            Some(part) => Ok(self.take_part(cuts, low, part)?),
+            None => self.step_on(alloc, disk, cuts, low),
         }
     }
 

@@ -30,6 +30,7 @@ fn with_one_more(span: Span, position: u16) -> Span
 }
 
 /// The position of an item of a transaction of `count` updates, from `low` on, and what follows the item.
+#[inline(always)]
 fn read_item(low: u16, count: u16, bytes: &[u8]) -> Option<(u16, &[u8])>
     ensures { Sees (item low count) (λ i. i.position) bytes.now (option_map (λ p. (p.0, p.1.now)) result) }
 {
@@ -49,6 +50,7 @@ fn read_item(low: u16, count: u16, bytes: &[u8]) -> Option<(u16, &[u8])>
 }
 
 /// How the positions lie of so many items of a transaction of `count` updates, which rise, and what follows the items.
+#[inline(always)]
 pub fn read_items(n: u16, count: u16, bytes: &[u8]) -> Option<(Span, &[u8])>
     ensures { Sees (items 0 n count) span_of bytes.now (option_map (λ p. (p.0, p.1.now)) result) }
 {

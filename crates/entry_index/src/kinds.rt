@@ -5,6 +5,7 @@ ghost use Rattle.entry_index.specs.Fields.{Reads, truth};
 ghost use Rattle.entry_index.specs.Telling.{TellsSign};
 
 use crate::sign::Sign;
+use crate::signed_part::LAST_GENERATION;
 use repl_fields::{read_u8, read_u32, read_u64};
 
 /// The only version of the layout.
@@ -12,9 +13,6 @@ const VERSION: u8 = 1;
 
 /// How many regions there can be.
 const MOST_REGIONS: u8 = 8;
-
-/// The greatest generation.
-const LAST_GENERATION: u32 = 65535;
 
 /// How many bytes a block has.
 const BLOCK: usize = 4096;

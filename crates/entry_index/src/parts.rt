@@ -43,6 +43,7 @@ impl Head {
 }
 
 /// How a TCOM begins, in whatever ranges, and what follows.
+#[inline(always)]
 fn read_head(bytes: &[u8]) -> Option<(Head, &[u8])>
     ensures { Reads head bytes.now (option_map (λ p. (head_fields p.0, p.1.now)) result) }
 {
@@ -66,6 +67,7 @@ fn read_head(bytes: &[u8]) -> Option<(Head, &[u8])>
 }
 
 /// What a TCOM says.
+#[inline(always)]
 pub fn part_sign(bytes: &[u8]) -> Option<Sign>
     ensures { TellsSign (5 ∷ bytes.now) result }
 {

@@ -4,13 +4,17 @@ ghost use Rattle.disk_defs.specs.Disk.{Files, Reads, MayFailUncounted};
 ghost use Rattle.journal_defs.specs.Numbers.{journal_file};
 ghost use Rattle.journal_defs.specs.Sequence.{Placed};
 ghost use Rattle.entry_index.specs.Pieces.{IsPieceOf, FindsSign};
-ghost use Rattle.entry_index.specs.Cursors.{IsSound, IsAt, IsSameRegion, IsReady, Stepped, left};
+ghost use Rattle.entry_index.specs.Cursors.{IsSound, IsAt, IsNextRecord, IsSameRegion, IsReady, Stepped, left, placed_by};
+ghost use Rattle.entry_index.specs.Telling.{TellsSign};
 
 use crate::error::IndexError;
 use crate::generations::{find_sign, may_join};
+use crate::parts::part_sign;
 use crate::pieces::Pieces;
+use crate::place::PartPlace;
 use crate::placed::PlacedSign;
 use crate::sign::Sign;
+use crate::signed_part::PartSign;
 use jnl_file::{JournalError, journal_file};
 use repl_disk::Disk;
 use std::alloc::Global;
@@ -57,6 +61,35 @@ fn begin<D: Disk>(alloc: Global, disk: &mut D, file: u32) -> Result<Pieces, Inde
         Ok(pieces) => Ok(pieces),
         Err(JournalError::NoMemory) => Err(IndexError::NoMemory),
         Err(JournalError::Failed | JournalError::NotARecord { .. }) => Err(IndexError::Failed),
+    }
+}
+
+/// The part whose record's body these bytes are, with its place.
+#[inline(always)]
+fn placed_part(body: &[u8], place: PartPlace) -> Option<PartSign>
+    ensures { IfSome result (λ part. (part.place ≡ place) × TellsSign body.now (Some (placed_by part).sign)) }
+{
+    let [5, rest @ ..] = body else {
+        return None;
+    };
+    match part_sign(rest) {
+        Some(
+            Sign::Tcom {
+                number,
+                mask,
+                origin,
+                count,
+                span,
+            },
+        ) => Some(PartSign {
+            number,
+            mask,
+            origin,
+            count,
+            span,
+            place,
+        }),
+        _ => None,
     }
 }
 
@@ -134,6 +167,30 @@ impl Reader {
         self.at = next;
         self.began = generation;
         Step::Read(placed)
+    }
+
+    /// The part whose record stands here, where all of it is at hand; then it's passed. Most records are told so.
+    #[inline(always)]
+    pub fn pass_part(&mut self) -> Option<PartSign>
+        requires sound { IsSound self.old }
+        requires inside { self.old.generation ≤ self.old.last }
+        ensures passed { IfSome result (λ part. (files : Files) → IsPieceOf self.old.pieces files → (journal : List Placed) → IsAt files self.old journal → IsNextRecord files self.old.region self.new journal (placed_by part)) }
+        ensures none { result ≡ None → self.new ≡ self.old }
+        ensures sound { IsSound self.new }
+        ensures same { IsSameRegion self.old self.new }
+        ensures further { IfSome result (λ part. left self.new < left self.old) }
+        ensures pieces { self.new.pieces ≡ self.old.pieces }
+    {
+        let (generation, offset) = (self.generation, self.at);
+        if offset == 0 {
+            return None;
+        }
+        let body = self.pieces.body_at_hand(offset)?;
+        let next = offset + 5 + body.len() as u64;
+        let part = placed_part(body, PartPlace { generation, offset })?;
+        self.at = next;
+        self.began = generation;
+        Some(part)
     }
 
     /// Reads one record, or goes on to the next journal at a closed gate.

@@ -4,26 +4,23 @@ ghost use Rattle.std.specs.Option.{option_map};
 ghost use Rattle.repl_fields.specs.Reading.{ReadsField};
 ghost use Rattle.entry_index.specs.Fields.{Skips, key, value, pair, update};
 
-use gvn_key::{Seen, first_key};
+use gvn_key::is_key;
 use repl_fields::{read_long, read_short, read_u8};
 
 /// How many bytes a value may have.
 const LONGEST_VALUE: usize = 1500;
 
 /// What follows a key behind its length.
+#[inline(always)]
 fn past_key(bytes: &[u8]) -> Option<&[u8]>
     ensures { Skips key bytes.now (option_map (λ rest. rest.now) result) }
 {
     let (code, rest) = read_short(bytes)?;
-    let mut seen = Seen::nothing();
-    if first_key(&mut seen, code) {
-        Some(rest)
-    } else {
-        None
-    }
+    if is_key(code) { Some(rest) } else { None }
 }
 
 /// What follows a value behind its length.
+#[inline(always)]
 fn past_value(bytes: &[u8]) -> Option<&[u8]>
     ensures { Skips value bytes.now (option_map (λ rest. rest.now) result) }
 {
@@ -36,6 +33,7 @@ fn past_value(bytes: &[u8]) -> Option<&[u8]>
 }
 
 /// What follows a key and a value.
+#[inline(always)]
 fn past_pair(bytes: &[u8]) -> Option<&[u8]>
     ensures { Skips pair bytes.now (option_map (λ rest. rest.now) result) }
 {
@@ -44,6 +42,7 @@ fn past_pair(bytes: &[u8]) -> Option<&[u8]>
 }
 
 /// What follows an update of this kind, by what stands behind the kind.
+#[inline(always)]
 fn past_kind(kind: u8, bytes: &[u8]) -> Option<&[u8]>
     ensures { Skips update (kind ∷ bytes.now) (option_map (λ rest. rest.now) result) }
 {
@@ -56,6 +55,7 @@ fn past_kind(kind: u8, bytes: &[u8]) -> Option<&[u8]>
 }
 
 /// What follows an update.
+#[inline(always)]
 pub fn past_update(bytes: &[u8]) -> Option<&[u8]>
     ensures { Skips update bytes.now (option_map (λ rest. rest.now) result) }
 {

@@ -15,6 +15,7 @@ use crate::told::Seen;
 use std::cmp::Ordering;
 
 /// What a key's bytes tell whose subscripts stand from a place on, if these are 0, positive whole numbers and plain strings.
+#[inline(always)]
 fn plain_subs(bytes: &[u8], end: usize) -> Option<Seen>
     requires name { BeginWithName end bytes.now }
     requires short { length bytes.now ≤ 255 }
@@ -35,6 +36,7 @@ fn plain_subs(bytes: &[u8], end: usize) -> Option<Seen>
 }
 
 /// What a key's bytes tell, if its subscripts are 0, positive whole numbers and plain strings.
+#[inline(always)]
 fn plain_key(bytes: &[u8]) -> Option<Seen>
     ensures code { IfSome result (λ seen. IsCode bytes.now) }
     ensures tells { IfSome result (λ seen. Tells seen bytes.now) }
@@ -60,6 +62,17 @@ pub fn first_key(seen: &mut Seen, bytes: &[u8]) -> bool
             *seen = Seen::nothing();
             is_code(bytes)
         }
+    }
+}
+
+/// Whether these bytes are the encoded form of a key.
+#[inline(never)]
+pub fn is_key(bytes: &[u8]) -> bool
+    ensures { IsTrue result ↔ IsCode bytes.now }
+{
+    match plain_key(bytes) {
+        Some(_) => true,
+        None => is_code(bytes),
     }
 }
 

@@ -33,6 +33,7 @@ fn is_whole_number(exponent: u8, digits: &[u8]) -> bool
 }
 
 /// How many bytes a positive whole number has that begins here, behind the byte of its kind.
+#[inline(always)]
 fn whole_size(bytes: &[u8]) -> Option<usize>
     ensures whole { IfSome result (λ n. BeginWithWhole n bytes.now) }
     ensures some { IfSome result (λ n. 0 < length bytes.now) }
@@ -97,6 +98,7 @@ impl Plain {
 }
 
 /// The positive whole number that these bytes are behind the byte of its kind.
+#[inline(always)]
 fn whole_behind(bytes: &[u8]) -> Option<Plain>
     ensures sub { IfSome result (λ p. BeginWithSub p.size (3 ∷ bytes.now)) }
     ensures text { IfSome result (λ p. HasText p.seen.from p.seen.low p.seen.most p.seen.longest p.size (3 ∷ bytes.now)) }
@@ -112,6 +114,7 @@ fn whole_behind(bytes: &[u8]) -> Option<Plain>
 }
 
 /// The string that these bytes are behind the byte of its kind. Its last character may be any past 2.
+#[inline(always)]
 fn text_behind(bytes: &[u8]) -> Option<Plain>
     ensures sub { IfSome result (λ p. BeginWithSub p.size (4 ∷ bytes.now)) }
     ensures text { IfSome result (λ p. HasText p.seen.from p.seen.low p.seen.most p.seen.longest p.size (4 ∷ bytes.now)) }
@@ -126,6 +129,7 @@ fn text_behind(bytes: &[u8]) -> Option<Plain>
 }
 
 /// The subscript whose first byte is of this kind, behind which these stand.
+#[inline(always)]
 fn sub_behind(kind: u8, bytes: &[u8]) -> Option<Plain>
     ensures sub { IfSome result (λ p. BeginWithSub p.size (kind ∷ bytes.now)) }
     ensures text { IfSome result (λ p. 0 < p.seen.longest → HasText p.seen.from p.seen.low p.seen.most p.seen.longest p.size (kind ∷ bytes.now)) }
@@ -144,6 +148,7 @@ fn sub_behind(kind: u8, bytes: &[u8]) -> Option<Plain>
 }
 
 /// The subscript that these bytes begin with, where it is 0, a positive whole number or a plain string.
+#[inline(always)]
 pub fn read_sub(bytes: &[u8]) -> Option<Plain>
     ensures sub { IfSome result (λ p. BeginWithSub p.size bytes.now) }
     ensures text { IfSome result (λ p. 0 < p.seen.longest → HasText p.seen.from p.seen.low p.seen.most p.seen.longest p.size bytes.now) }

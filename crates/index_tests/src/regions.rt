@@ -277,7 +277,7 @@ fn long_journal(rt: &impl Abort, alloc: Global) -> Bytes {
 }
 
 #[test]
-fn a_journal_of_two_pieces(rt: HostRuntime) {
+fn a_journal_of_many_pieces(rt: HostRuntime) {
     let alloc = rt.alloc();
     let mut disk = MemDisk::new(alloc).expect(&rt, "memory");
     let bytes = long_journal(&rt, alloc);

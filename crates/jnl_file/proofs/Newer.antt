@@ -15,19 +15,9 @@ use Rattle.jnl_record.specs.Values.{record_value}
 use Rattle.jnl_record.specs.declared.record.JnlRecord.{JnlRecord}
 use Rattle.jnl_file.specs.Reading.{FindsRecord, IsNoRecord}
 use Rattle.jnl_file.specs.Generations.{MayJoin, HasNewer, StopsAt}
+use Rattle.jnl_file.specs.Newer.{Reached}
 use Rattle.jnl_file.proofs.Zips.{zip_append}
 use Rattle.jnl_file.proofs.Walk.{at_start, past_start, no_more_pinis, next_place}
-
--- Up to this place stand records of such a journal, which were added to a list.
-pub record Reached (region generation previous : ℕ) (file : List ℕ) (at : ℕ) (old new : List Placed) (began : ℕ) : Type 0 where
-  pub done : List Body
-  pub list : records file ≡ option_map (λ rest. done ++ rest) (bodies_at file at)
-  pub place : at ≡ length (spelled 1 done)
-  pub earlier : List JournalRecord
-  pub spelled_done : AllZip IsJournalBody done earlier
-  pub begins : BeginsWithPini region generation previous earlier
-  pub began_is : began ≡ last_began previous generation earlier
-  pub whole : new ≡ old ++ map (in_generation generation) earlier
 
 map_same : (o : Option (List Body)) → o ≡ option_map (λ rest. [] ++ rest) o
 map_same None = refl

@@ -4,3 +4,4 @@ pub mod Reading
 pub mod Begin
 pub mod Errors
 pub mod Generations
+pub mod Newer

@@ -11,16 +11,13 @@ ghost use Rattle.entry_index.specs.Places.{StandsAt, IsSignOf};
 ghost use Rattle.region_opening.specs.Signs.{IsDrawn, AreTold};
 ghost use Rattle.region_opening.specs.Images.{images_in};
 
-use entry_index::{PlacedSign, Sign, read_placed};
+use entry_index::{LAST_GENERATION, PlacedSign, Sign, read_placed};
 use gvn_key::NoMemory;
 use jnl_file::{JournalError, journal_file};
 use jnl_record::{JnlRecord, PlacedRecord};
 use region_store::RegionError;
 use repl_disk::Disk;
 use std::alloc::Global;
-
-/// The last generation that there may be.
-const LAST_GENERATION: u32 = 65535;
 
 /// How many bytes a block has.
 const BLOCK: usize = 4096;

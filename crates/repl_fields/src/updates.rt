@@ -13,7 +13,7 @@ ghost use Rattle.repl_fields.specs.Reading.{ReadsField};
 use super::numbers::read_u8;
 use super::pieces::{read_long, read_short};
 use gvn_key::terms::Update;
-use gvn_key::{Bytes, Key, NoMemory, Seen, first_key};
+use gvn_key::{Bytes, Key, NoMemory, is_key};
 use std::alloc::Global;
 
 /// How many bytes a value may have.
@@ -23,8 +23,7 @@ const LONGEST_VALUE: usize = 1500;
 fn decode_key(alloc: Global, code: &[u8]) -> Result<Option<Key>, NoMemory>
     ensures { IfOk result (λ found. Decodes code.now found) }
 {
-    let mut seen = Seen::nothing();
-    if !first_key(&mut seen, code) {
+    if !is_key(code) {
         return Ok(None);
     }
     Ok(Some(Key::of_code(alloc, code)?))

@@ -10,15 +10,12 @@ ghost use Rattle.site_files.specs.Errors.{placed_error};
 ghost use Rattle.site_files.specs.Past.{is_past_by_sign, all_past, AreRegionSigns};
 
 use crate::error::FilesError;
-use entry_index::{PlacedSign, Sign, read_placed};
+use entry_index::{LAST_GENERATION, PlacedSign, Sign, read_placed};
 use gvn_key::NoMemory;
 use jnl_file::{JournalError, journal_file};
 use jnl_record::PlacedRecord;
 use repl_disk::Disk;
 use std::alloc::Global;
-
-/// The last generation that there may be.
-const LAST_GENERATION: u32 = 65_535;
 
 /// Whether a record is a part whose number is past this length, by its sign.
 fn is_past(sign: &Sign, length: u64) -> bool

@@ -3,7 +3,7 @@ use Rattle.std.specs.List.{AllByRecursion}
 use Rattle.disk_defs.specs.Disk.{Reads}
 use Rattle.jnl_record.specs.Values.{placed_value}
 use Rattle.jnl_file.specs.Reading.{IsReadRecord}
-use Rattle.jnl_file.proofs.Newer.{Reached}
+use Rattle.jnl_file.specs.Newer.{Reached}
 use Rattle.jnl_file.proofs.generations.read_on.Given as goal
 
 abbrev pub invariant-loop-body : goal.invariant-loop-body
