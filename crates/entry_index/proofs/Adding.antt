@@ -11,7 +11,7 @@ use Rattle.journal_defs.specs.Surviving.{reigns}
 use Rattle.mupip_recover.specs.Cuts.{AreCuts}
 use Rattle.mupip_recover.specs.Stamps.{AreStarts}
 use Rattle.mupip_recover.specs.declared.cuts.Cuts.{Cuts}
-use Rattle.entry_index.specs.Cursors.{IsDone, AreReady, AreOnWay, AreTold, AllReadOnBy, AllReadOutBy, AllSettle, HaveAdded, AreAdded, FromStart}
+use Rattle.entry_index.specs.Cursors.{IsDone, AreReady, AreOnWay, AreTold, AllReadOnFor, AllReadOutBy, AllSettle, HaveAdded, AreAdded, FromStart}
 use Rattle.entry_index.specs.Found.{HaveFound}
 use Rattle.entry_index.specs.Indexes.{IsNext}
 use Rattle.entry_index.specs.Table.{AddsRow, AreSigned}
@@ -27,40 +27,40 @@ abbrev pub NextBy : List (Option PartSign) → (regions number : ℕ) → List �
 NextBy row regions number starts more old new files =
     (part : ℕ → Option Part) → AreSigned files row number part → ((r : ℕ) → regions ≤ r → part r ≡ None) → (rs : List Reign) → AreStarts rs starts → IsNext files rs number part more old new
 
-module _ (cuts : Cuts) (starts : List ℕ) (first cs mid : List Cursor) (n : ℕ) (index made : EntryIndex) (row : List (Option PartSign)) (content : Option Files) (last : ℕ) (ready : AreReady content last mid) (many : length mid ≡ index.regions)
+module _ (cuts : Cuts) (starts : List ℕ) (lowest : ℕ) (first cs mid : List Cursor) (n : ℕ) (index made : EntryIndex) (row : List (Option PartSign)) (content : Option Files) (last : ℕ) (ready : AreReady content last mid) (many : length mid ≡ index.regions)
     (same : made.regions ≡ index.regions) (row_is : row ≡ row_of (n + 1) mid) where
   -- one entry more
   pub told_more : (o : Option Files) (new : List Cursor) → AddsRow row index.regions true index.places.items made.places.items → ((files : Files) → AllSettle files n mid new)
-      → IfSome o (FromStart cuts starts first (λ files instance. HaveAdded files instance n cs index)) → IfSome o (AllReadOnBy cuts n cs mid) → IfSome o (NextBy row index.regions (n + 1) starts true index.places.items made.places.items)
-      → IfSome o (FromStart cuts starts first (λ files instance. HaveAdded files instance (n + 1) new made))
+      → IfSome o (FromStart cuts starts lowest first (λ files instance. HaveAdded files instance lowest n cs index)) → IfSome o (AllReadOnFor cuts lowest n cs mid) → IfSome o (NextBy row index.regions (n + 1) starts true index.places.items made.places.items)
+      → IfSome o (FromStart cuts starts lowest first (λ files instance. HaveAdded files instance lowest (n + 1) new made))
   told_more None new adds settles so_far on next = tt
   told_more (Some files) new adds settles so_far on next = λ instance are_cuts are_starts journal way told.
       let have = so_far instance are_cuts are_starts journal way told in
-      let reads = on instance are_cuts n (omega arith) (omega arith) have.journal have.on_way in
-      let signed = subst (λ (l : List (Option PartSign)). AreSigned files l (n + 1) (λ r. part_of instance (n + 1) (reads.now r))) (sym row_is) (this_signed files instance n cs mid index content last ready have reads) in
-      added_more files instance n cs mid index content last ready have reads new made many same (subst (λ (l : List (Option PartSign)). AddsRow l index.regions true index.places.items made.places.items) row_is adds)
-      (next (λ r. part_of instance (n + 1) (reads.now r)) signed (λ r past. this_past files instance n cs mid index content last ready have reads r (omega (arith, past, many))) (reigns instance) are_starts) (settles files)
+      let reads = on instance are_cuts have.journal have.on_way have.told in
+      let signed = subst (λ (l : List (Option PartSign)). AreSigned files l (n + 1) (λ r. part_of instance (n + 1) (reads.now r))) (sym row_is) (this_signed files instance lowest n cs mid index content last ready have reads) in
+      added_more files instance lowest n cs mid index content last ready have reads new made many same (subst (λ (l : List (Option PartSign)). AddsRow l index.regions true index.places.items made.places.items) row_is adds)
+      (next (λ r. part_of instance (n + 1) (reads.now r)) signed (λ r past. this_past files instance lowest n cs mid index content last ready have reads r (omega (arith, past, many))) (reigns instance) are_starts) (settles files)
 
   -- no entry more
-  pub told_end : (o : Option Files) → IfSome o (FromStart cuts starts first (λ files instance. HaveAdded files instance n cs index)) → IfSome o (AllReadOnBy cuts n cs mid)
-      → IfSome o (NextBy row index.regions (n + 1) starts false index.places.items made.places.items) → IfSome o (FromStart cuts starts first (λ files instance. AreAdded files instance n mid made))
+  pub told_end : (o : Option Files) → IfSome o (FromStart cuts starts lowest first (λ files instance. HaveAdded files instance lowest n cs index)) → IfSome o (AllReadOnFor cuts lowest n cs mid)
+      → IfSome o (NextBy row index.regions (n + 1) starts false index.places.items made.places.items) → IfSome o (FromStart cuts starts lowest first (λ files instance. AreAdded files instance lowest n mid made))
   told_end None so_far on next = tt
   told_end (Some files) so_far on next = λ instance are_cuts are_starts journal way told.
       let have = so_far instance are_cuts are_starts journal way told in
-      let reads = on instance are_cuts n (omega arith) (omega arith) have.journal have.on_way in
-      let signed = subst (λ (l : List (Option PartSign)). AreSigned files l (n + 1) (λ r. part_of instance (n + 1) (reads.now r))) (sym row_is) (this_signed files instance n cs mid index content last ready have reads) in
-      added_end files instance n cs mid index content last ready have reads made same
-      (next (λ r. part_of instance (n + 1) (reads.now r)) signed (λ r past. this_past files instance n cs mid index content last ready have reads r (omega (arith, past, many))) (reigns instance) are_starts)
+      let reads = on instance are_cuts have.journal have.on_way have.told in
+      let signed = subst (λ (l : List (Option PartSign)). AreSigned files l (n + 1) (λ r. part_of instance (n + 1) (reads.now r))) (sym row_is) (this_signed files instance lowest n cs mid index content last ready have reads) in
+      added_end files instance lowest n cs mid index content last ready have reads made same
+      (next (λ r. part_of instance (n + 1) (reads.now r)) signed (λ r past. this_past files instance lowest n cs mid index content last ready have reads r (omega (arith, past, many))) (reigns instance) are_starts)
 
 -- what is found, once all is read
-pub told_found : (o : Option Files) (cuts : Cuts) (starts : List ℕ) (first mid cs : List Cursor) (index : EntryIndex) (instance : List InstanceRecord) (regions n last : ℕ) (content : Option Files) → AreCuts instance cuts → AreStarts (reigns instance) starts
-    → length cs ≡ regions → AreReady content last cs → ((r : ℕ) (d : Cursor) → r < length cs → IsDone (get_or cs r d)) → ((files : Files) → AreTold files instance 0 first (λ r. [])) → IfSome o (λ files. AreOnWay files 0 first (λ r. []))
-    → IfSome o (FromStart cuts starts first (λ files instance. AreAdded files instance n mid index)) → IfSome o (AllReadOutBy cuts (n + 1) mid cs)
-    → IfSome o (λ files. (journal : ℕ → List Placed) × HaveFound files instance regions last (map (λ c. c.kept.signs.items) cs) (map (λ c. c.reader.began) cs) index journal)
-told_found None cuts starts first mid cs index instance regions n last content are_cuts are_starts many ready done told begun added out = tt
-told_found (Some files) cuts starts first mid cs index instance regions n last content are_cuts are_starts many ready done told begun added out =
-    let have = added instance are_cuts are_starts (λ r. []) begun (told files) in
-    have_found files instance regions n last mid cs index content many ready done have (out instance are_cuts n (omega arith) (omega arith) have.journal have.on_way)
+pub told_found : (o : Option Files) (cuts : Cuts) (starts : List ℕ) (lowest : ℕ) (first mid cs : List Cursor) (index : EntryIndex) (instance : List InstanceRecord) (regions n last : ℕ) (content : Option Files) → AreCuts instance cuts → AreStarts (reigns instance) starts
+    → length cs ≡ regions → AreReady content last cs → ((r : ℕ) (d : Cursor) → r < length cs → IsDone (get_or cs r d)) → ((files : Files) → AreTold files instance 0 first (λ r. [])) → IfSome o (λ files. (instance : List InstanceRecord) (lowest : ℕ) → AreOnWay files instance lowest 0 first (λ r. []))
+    → IfSome o (FromStart cuts starts lowest first (λ files instance. AreAdded files instance lowest n mid index)) → IfSome o (AllReadOutBy cuts (n + 1) mid cs)
+    → IfSome o (λ files. (journal : ℕ → List Placed) × HaveFound files instance lowest regions last (map (λ c. c.kept.signs.items) cs) (map (λ c. c.reader.began) cs) index journal)
+told_found None cuts starts lowest first mid cs index instance regions n last content are_cuts are_starts many ready done told begun added out = tt
+told_found (Some files) cuts starts lowest first mid cs index instance regions n last content are_cuts are_starts many ready done told begun added out =
+    let have = added instance are_cuts are_starts (λ r. []) (begun instance lowest) (told files) in
+    have_found files instance lowest regions n last mid cs index content many ready done have (out instance are_cuts lowest n (omega arith) (omega arith) have.journal have.on_way)
 
 -- no generation past the last began
 pub began_least : (content : Option Files) (last : ℕ) (cs : List Cursor) → AreReady content last cs → (r : ℕ) → get_or (map (λ c. c.reader.began) cs) r 0 ≤ last

@@ -87,8 +87,8 @@ module _ (instance : List InstanceRecord) (low : ℕ) (old new : ℕ → List Pl
   }
 
 -- an entry more, of what was read on
-module _ (files : Files) (instance : List InstanceRecord) (n : ℕ) (cs mid : List Cursor) (index : EntryIndex) (content : Option Files) (last : ℕ) (ready : AreReady content last mid) (have : HaveAdded files instance n cs index)
-    (reads : AllReadOn files instance n n cs mid have.journal) where
+module _ (files : Files) (instance : List InstanceRecord) (lowest n : ℕ) (cs mid : List Cursor) (index : EntryIndex) (content : Option Files) (last : ℕ) (ready : AreReady content last mid) (have : HaveAdded files instance lowest n cs index)
+    (reads : AllReadOn files instance lowest n n cs mid have.journal) where
   abbrev now : ℕ → List Placed
   now = reads.now
 
@@ -106,22 +106,22 @@ module _ (files : Files) (instance : List InstanceRecord) (n : ℕ) (cs mid : Li
 
   -- what its row tells
   pub this_signed : AreSigned files (row_of (n + 1) mid) (n + 1) (λ r. part_of instance (n + 1) (now r))
-  this_signed = row_signed files instance n (n + 1) here mid now regions reads.on_way told_now
+  this_signed = row_signed files instance lowest n (n + 1) here mid now regions reads.on_way told_now
 
   pub this_past : (r : ℕ) → length mid ≤ r → part_of instance (n + 1) (now r) ≡ None
-  this_past r past = none_past files instance n (n + 1) here mid now regions reads.on_way told_now r past
+  this_past r past = none_past files instance lowest n (n + 1) here mid now regions reads.on_way told_now r past
 
   pub added_more : (new : List Cursor) (made : EntryIndex) → length mid ≡ index.regions → made.regions ≡ index.regions → AddsRow (row_of (n + 1) mid) index.regions true index.places.items made.places.items
-      → IsNext files (reigns instance) (n + 1) (λ r. part_of instance (n + 1) (now r)) true index.places.items made.places.items → AllSettle files n mid new → HaveAdded files instance (n + 1) new made
+      → IsNext files (reigns instance) (n + 1) (λ r. part_of instance (n + 1) (now r)) true index.places.items made.places.items → AllSettle files n mid new → HaveAdded files instance lowest (n + 1) new made
   added_more new made many same row next settles = record {
     journal = now;
-    on_way = settles.on_way now reads.on_way;
+    on_way = settles.on_way instance lowest now reads.on_way;
     told = settles.told instance now told_now;
     built = built_more files (record { instance = instance; journal = now }) index made n row.0 same next row.1 row.2
-        (row_among files instance n (n + 1) here mid now regions reads.on_way told_now row.0 (row.2 ∙ sym many) (λ r low. row.3 r (omega (arith, low, many)))) built_now;
+        (row_among files instance lowest n (n + 1) here mid now regions reads.on_way told_now row.0 (row.2 ∙ sym many) (λ r low. row.3 r (omega (arith, low, many)))) built_now;
   }
 
-  pub added_end : (made : EntryIndex) → made.regions ≡ index.regions → IsNext files (reigns instance) (n + 1) (λ r. part_of instance (n + 1) (now r)) false index.places.items made.places.items → AreAdded files instance n mid made
+  pub added_end : (made : EntryIndex) → made.regions ≡ index.regions → IsNext files (reigns instance) (n + 1) (λ r. part_of instance (n + 1) (now r)) false index.places.items made.places.items → AreAdded files instance lowest n mid made
   added_end made same next = record {
     journal = now;
     on_way = reads.on_way;
@@ -130,8 +130,8 @@ module _ (files : Files) (instance : List InstanceRecord) (n : ℕ) (cs mid : Li
   }
 
 -- all is read: these are the records of the regions' journals, and what is kept of them
-module _ (files : Files) (instance : List InstanceRecord) (n low last : ℕ) (cs : List Cursor) (index : EntryIndex) (content : Option Files) (ready : AreReady content last cs) (done : (r : ℕ) (d : Cursor) → r < length cs → IsDone (get_or cs r d))
-    (journal : ℕ → List Placed) (way : AreOnWay files n cs journal) where
+module _ (files : Files) (instance : List InstanceRecord) (lowest n low last : ℕ) (cs : List Cursor) (index : EntryIndex) (content : Option Files) (ready : AreReady content last cs) (done : (r : ℕ) (d : Cursor) → r < length cs → IsDone (get_or cs r d))
+    (journal : ℕ → List Placed) (way : AreOnWay files instance lowest n cs journal) where
   pub whole_journal : (r : ℕ) → r < length cs → IsJournal files r last (get_or (map (λ c. c.reader.began) cs) r 0) (journal r)
   whole_journal r inside =
       let d = some_in cs r inside in
@@ -141,11 +141,11 @@ module _ (files : Files) (instance : List InstanceRecord) (n low last : ℕ) (cs
       subst (λ (k : ℕ). IsJournal files r last k (journal r)) (sym (get_or-map (λ (x : Cursor). x.reader.began) cs r d 0 inside))
       (subst (λ (k : ℕ). IsJournal files r k c.reader.began (journal r)) is.last_is (subst (λ (k : ℕ). IsJournal files k c.reader.last c.reader.began (journal r)) is.region_is at))
 
-  keeps_at : (r : ℕ) → r < length cs → (k : List Placed) × AreSignsOf files r (get_or (map (λ c. c.kept.signs.items) cs) r []) k × AllByRecursion IsDrawn k × IsThinned n None (journal r) k
+  keeps_at : (r : ℕ) → r < length cs → (k : List Placed) × AreSignsOf files r (get_or (map (λ c. c.kept.signs.items) cs) r []) k × AllByRecursion IsDrawn k × IsThinned instance lowest n None (journal r) k
   keeps_at r inside =
       let d = some_in cs r inside in
       let c = get_or cs r d in
-      let keeps = all_kept files n c (journal r) (done r d inside).none (way.each r d inside) in
+      let keeps = all_kept files instance lowest n c (journal r) (done r d inside).none (way.each r d inside) in
       let are : AreSignsOf files r c.kept.signs.items keeps.kept = subst (λ (k : ℕ). AreSignsOf files k c.kept.signs.items keeps.kept) (ready r d inside).region_is keeps.are in (
         keeps.kept,
         subst (λ (l : List PlacedSign). AreSignsOf files r l keeps.kept) (sym (get_or-map (λ (x : Cursor). x.kept.signs.items) cs r d [] inside)) are,
@@ -167,12 +167,12 @@ module _ (files : Files) (instance : List InstanceRecord) (n low last : ℕ) (cs
   kept_past r (inl inside) high = absurd (omega (arith, inside, high))
   kept_past r (inr past) high = refl
 
-  kept_thinned : (r : ℕ) (o : (r < length cs) ⊎ (length cs ≤ r)) → IsThinned n None (journal r) (kept_by r o)
+  kept_thinned : (r : ℕ) (o : (r < length cs) ⊎ (length cs ≤ r)) → IsThinned instance lowest n None (journal r) (kept_by r o)
   unfolding kept_by keeps_at
   kept_thinned r (inl inside) = (keeps_at r inside).3
-  kept_thinned r (inr past) = subst (λ (l : List Placed). IsThinned n None l []) (sym (way.no_more r past)) refl
+  kept_thinned r (inr past) = subst (λ (l : List Placed). IsThinned instance lowest n None l []) (sym (way.no_more r past)) refl
 
-  pub are_kept : AreKept files n (map (λ c. c.kept.signs.items) cs) journal
+  pub are_kept : AreKept files instance lowest n (map (λ c. c.kept.signs.items) cs) journal
   are_kept =
       let signs = map (λ (c : Cursor). c.kept.signs.items) cs in
       let wide : length signs ≡ length cs = length-map cs (λ (c : Cursor). c.kept.signs.items) in
@@ -187,21 +187,21 @@ module _ (files : Files) (instance : List InstanceRecord) (n low last : ℕ) (cs
       }
 
 -- what is found of a site's journals
-pub have_found : (files : Files) (instance : List InstanceRecord) (regions n last : ℕ) (mid cs : List Cursor) (index : EntryIndex) (content : Option Files) → length cs ≡ regions → AreReady content last cs
-    → ((r : ℕ) (d : Cursor) → r < length cs → IsDone (get_or cs r d)) → (added : AreAdded files instance n mid index) → AllReadOut files instance n (n + 1) cs added.journal
-    → (journal : ℕ → List Placed) × HaveFound files instance regions last (map (λ c. c.kept.signs.items) cs) (map (λ c. c.reader.began) cs) index journal
-have_found files instance regions n last mid cs index content many ready done added out =
+pub have_found : (files : Files) (instance : List InstanceRecord) (lowest regions n last : ℕ) (mid cs : List Cursor) (index : EntryIndex) (content : Option Files) → length cs ≡ regions → AreReady content last cs
+    → ((r : ℕ) (d : Cursor) → r < length cs → IsDone (get_or cs r d)) → (added : AreAdded files instance lowest n mid index) → AllReadOut files instance lowest n (n + 1) cs added.journal
+    → (journal : ℕ → List Placed) × HaveFound files instance lowest regions last (map (λ c. c.kept.signs.items) cs) (map (λ c. c.reader.began) cs) index journal
+have_found files instance lowest regions n last mid cs index content many ready done added out =
     let built = built_stays instance (n + 1) added.journal out.now out.grows files index n (omega arith) added.built in
     let one : suc n ≤ n + 1 = omega arith in
     let ended : entry (record { instance = instance; journal = out.now }) (suc n) ≡ None = entry_stays instance (n + 1) added.journal out.now out.grows (suc n) one ∙ added.ended in (
       out.now,
       record {
-        journals = λ r inside. whole_journal files instance n (n + 1) last cs index content ready done out.now out.on_way r (omega (arith, inside, many));
+        journals = λ r inside. whole_journal files instance lowest n (n + 1) last cs index content ready done out.now out.on_way r (omega (arith, inside, many));
         no_more = λ r past. out.on_way.no_more r (omega (arith, past, many));
         seq = built.seq;
         sequence = record { each = built.each; ended = subst (λ (k : ℕ). entry (record { instance = instance; journal = out.now }) (suc k) ≡ None) (sym built.long) ended };
         indexed = built.indexed;
         among = built.among;
-        kept = subst (λ (k : ℕ). AreKept files k (map (λ c. c.kept.signs.items) cs) out.now) (sym built.long) (are_kept files instance n (n + 1) last cs index content ready done out.now out.on_way);
+        kept = subst (λ (k : ℕ). AreKept files instance lowest k (map (λ c. c.kept.signs.items) cs) out.now) (sym built.long) (are_kept files instance lowest n (n + 1) last cs index content ready done out.now out.on_way);
       },
     )

@@ -2,12 +2,13 @@
 use Rattle.std.proofs.Common.{◌≡◌, ℕ, ◌+◌, ◌≤◌, ◌<◌, ◌==◌, nat_le, ◌&&◌, Bool, true, false, List, [], ◌∷◌, ◌++◌, Option, Some, None, refl, sym, ◌∙◌, ap, subst, arith, append_assoc, append-nil, if◌then◌else◌}
 use Rattle.std.proofs.lemmas.Bool.Decides.{nat_tests}
 use Rattle.std.specs.Option.{option_or}
+use Rattle.std.specs.Prelude.{is_some}
 use Rattle.disk_defs.specs.Disk.{Files}
 use Rattle.journal_defs.specs.Instance.{InstanceRecord}
 use Rattle.journal_defs.specs.Journal.{Part}
 use Rattle.journal_defs.specs.Sequence.{Placed, part_in, part_of}
 use Rattle.journal_defs.specs.Surviving.{survives}
-use Rattle.entry_index.specs.Cursors.{placed_by, IsDrawn, IsAt, IsNextRecord, Keeps, IsWaiting, Waits, IsOnWay, IsPast, Grows, Takes, ReadsOn, ReadsOut, Settles, IsReady}
+use Rattle.entry_index.specs.Cursors.{placed_by, IsDrawn, IsAt, IsNextRecord, Keeps, IsWaiting, Waits, IsOnWay, IsTold, IsPast, Grows, Takes, ReadsOn, ReadsOut, Settles, IsReady}
 use Rattle.entry_index.specs.Order.{bytes_in}
 use Rattle.entry_index.specs.Places.{IsSignOf}
 use Rattle.entry_index.specs.Signs.{part_said, part_sign_in, if_numbered, if_surviving, IsSign}
@@ -62,19 +63,29 @@ no_head files r n (Some p) is = absurd is
 abbrev waits_of : Files → ℕ → ℕ → List Placed → List Placed → Option PartSign → Type 0
 waits_of files region n before journal o = Waits files region n o before journal
 
-pub all_kept : (files : Files) (n : ℕ) (c : Cursor) (journal : List Placed) → c.waiting ≡ None → IsOnWay files n c journal → Keeps files c.reader.region n c.kept journal
-all_kept files n c journal none is =
+pub all_kept : (files : Files) (instance : List InstanceRecord) (lowest n : ℕ) (c : Cursor) (journal : List Placed) → c.waiting ≡ None → IsOnWay files instance lowest n c journal → Keeps files instance lowest c.reader.region n c.kept journal
+all_kept files instance lowest n c journal none is =
     let same : journal ≡ is.before = subst (waits_of files c.reader.region n is.before journal) none is.waits in
-    subst (λ (l : List Placed). Keeps files c.reader.region n c.kept l) (sym same) is.keeps
+    subst (λ (l : List Placed). Keeps files instance lowest c.reader.region n c.kept l) (sym same) is.keeps
+
+pub nothing_waits : (o : Option PartSign) → is_some o ≡ false → o ≡ None
+nothing_waits None none = refl
+nothing_waits (Some s) none = absurd (cc none)
+
+-- where nothing waits, no surviving part past the settled entries was read
+pub none_past : (files : Files) (instance : List InstanceRecord) (n : ℕ) (c : Cursor) (before journal : List Placed) → c.waiting ≡ None → Waits files c.reader.region n c.waiting before journal → IsTold files instance n c journal → (m : ℕ) → n < m → part_of instance m before ≡ None
+none_past files instance n c before journal none waits told m later =
+    let same : journal ≡ before = subst (waits_of files c.reader.region n before journal) none waits in
+    ap (part_of instance m) (sym same) ∙ no_head files c.reader.region m (part_of instance m journal) (subst (λ (o : Option PartSign). IsSign files c.reader.region m (if_numbered m o) (part_of instance m journal)) none (told m later))
 
 -- before all records
-pub begun : (files : Files) (n : ℕ) (c : Cursor) → c.waiting ≡ None → IsAt files c.reader [] → Keeps files c.reader.region n c.kept [] → IsOnWay files n c []
-begun files n c none at keeps = record { at = at; before = []; waits = subst (waits_of files c.reader.region n [] []) (sym none) refl; keeps = keeps }
+pub begun : (files : Files) (instance : List InstanceRecord) (lowest n : ℕ) (c : Cursor) → c.waiting ≡ None → IsAt files c.reader [] → Keeps files instance lowest c.reader.region n c.kept [] → IsOnWay files instance lowest n c []
+begun files instance lowest n c none at keeps = record { at = at; before = []; waits = subst (waits_of files c.reader.region n [] []) (sym none) refl; keeps = keeps }
 
-module _ (files : Files) (instance : List InstanceRecord) (n low : ℕ) where
+module _ (files : Files) (instance : List InstanceRecord) (lowest n low : ℕ) where
   -- a record more
   pub step_read : (old new : Cursor) (journal : List Placed) (placed : PlacedSign) → old.waiting ≡ None → new.reader.region ≡ old.reader.region → (next : IsNextRecord files old.reader.region new.reader journal placed)
-      → Takes files instance n low new journal next.what → ReadsOn files instance n low old new journal
+      → Takes files instance lowest n low new journal next.what → ReadsOn files instance lowest n low old new journal
   step_read old new journal placed none region next takes = record {
     now = journal ++ next.what ∷ [];
     on_way = record { at = next.at; before = takes.before; waits = takes.waits; keeps = takes.keeps };
@@ -87,15 +98,15 @@ module _ (files : Files) (instance : List InstanceRecord) (n low : ℕ) where
   }
 
   -- the next journal
-  pub step_turned : (old new : Cursor) (journal : List Placed) → new.kept ≡ old.kept → new.waiting ≡ old.waiting → new.reader.region ≡ old.reader.region → IsAt files new.reader journal → IsOnWay files n old journal
-      → ReadsOn files instance n low old new journal
+  pub step_turned : (old new : Cursor) (journal : List Placed) → new.kept ≡ old.kept → new.waiting ≡ old.waiting → new.reader.region ≡ old.reader.region → IsAt files new.reader journal → IsOnWay files instance lowest n old journal
+      → ReadsOn files instance lowest n low old new journal
   step_turned old new journal kept waiting region at is = record {
     now = journal;
     on_way = record {
       at = at;
       before = is.before;
       waits = subst (λ (o : Option PartSign). Waits files new.reader.region n o is.before journal) (sym waiting) (subst (λ (r : ℕ). Waits files r n old.waiting is.before journal) (sym region) is.waits);
-      keeps = subst (λ (k : Kept). Keeps files new.reader.region n k is.before) (sym kept) (subst (λ (r : ℕ). Keeps files r n old.kept is.before) (sym region) is.keeps);
+      keeps = subst (λ (k : Kept). Keeps files instance lowest new.reader.region n k is.before) (sym kept) (subst (λ (r : ℕ). Keeps files instance lowest r n old.kept is.before) (sym region) is.keeps);
     };
     grows = grows_none instance low journal;
     told = λ told m later.
@@ -103,36 +114,52 @@ module _ (files : Files) (instance : List InstanceRecord) (n low : ℕ) where
         (subst (λ (r : ℕ). IsSign files r m (if_numbered m old.waiting) (part_of instance m journal)) (sym region) (told m later));
   }
 
-  -- no step, and several
-  pub reads_none : (c : Cursor) (journal : List Placed) → IsOnWay files n c journal → ReadsOn files instance n low c c journal
+  -- none of what is kept is read anew
+  pub reads_kept : (old new : Cursor) (journal : List Placed) → new.waiting ≡ old.waiting → new.reader ≡ old.reader → ((before : List Placed) → Waits files old.reader.region n old.waiting before journal → Keeps files instance lowest old.reader.region n old.kept before → Keeps files instance lowest old.reader.region n new.kept before)
+      → IsOnWay files instance lowest n old journal → ReadsOn files instance lowest n low old new journal
+  reads_kept old new journal waiting reader keeps is = record {
+    now = journal;
+    on_way = record {
+      at = subst (λ (p : Reader). IsAt files p journal) (sym reader) is.at;
+      before = is.before;
+      waits = subst (λ (p : Reader). Waits files p.region n new.waiting is.before journal) (sym reader) (subst (λ (o : Option PartSign). Waits files old.reader.region n o is.before journal) (sym waiting) is.waits);
+      keeps = subst (λ (p : Reader). Keeps files instance lowest p.region n new.kept is.before) (sym reader) (keeps is.before is.waits is.keeps);
+    };
+    grows = grows_none instance low journal;
+    told = λ told m later.
+        subst (λ (p : Reader). IsSign files p.region m (if_numbered m new.waiting) (part_of instance m journal)) (sym reader)
+        (subst (λ (o : Option PartSign). IsSign files old.reader.region m (if_numbered m o) (part_of instance m journal)) (sym waiting) (told m later));
+  }
+
+  -- no step, and one behind another
+  pub reads_none : (c : Cursor) (journal : List Placed) → IsOnWay files instance lowest n c journal → ReadsOn files instance lowest n low c c journal
   reads_none c journal is = record { now = journal; on_way = is; grows = grows_none instance low journal; told = λ told. told }
 
-  pub reads_then : (old mid new : Cursor) (journal : List Placed) → ReadsOn files instance n low old mid journal → ((more : List Placed) → IsOnWay files n mid more → ReadsOn files instance n low mid new more) → ReadsOn files instance n low old new journal
-  reads_then old mid new journal first later =
-      let second = later first.now first.on_way in
+  pub reads_both : (old mid new : Cursor) (journal : List Placed) (first : ReadsOn files instance lowest n low old mid journal) → ReadsOn files instance lowest n low mid new first.now → ReadsOn files instance lowest n low old new journal
+  reads_both old mid new journal first second =
       record { now = second.now; on_way = second.on_way; grows = grows_then instance low journal first.now second.now first.grows second.grows; told = λ told. second.told (first.told told) }
 
-  pub outs_none : (c : Cursor) (journal : List Placed) → IsOnWay files n c journal → ReadsOut files instance n low c journal
+  pub outs_none : (c : Cursor) (journal : List Placed) → IsOnWay files instance lowest n c journal → ReadsOut files instance lowest n low c journal
   outs_none c journal is = record { now = journal; on_way = is; grows = grows_none instance low journal }
 
-  pub outs_then : (old mid new : Cursor) (journal : List Placed) → ReadsOut files instance n low old journal → ((more : List Placed) → IsOnWay files n old more → ReadsOn files instance n low old mid more) → ((more : List Placed) → IsOnWay files n mid more → IsOnWay files n new more)
-      → ReadsOut files instance n low new journal
+  pub outs_then : (old mid new : Cursor) (journal : List Placed) → ReadsOut files instance lowest n low old journal → ((more : List Placed) → IsOnWay files instance lowest n old more → ReadsOn files instance lowest n low old mid more) → ((more : List Placed) → IsOnWay files instance lowest n mid more → IsOnWay files instance lowest n new more)
+      → ReadsOut files instance lowest n low new journal
   outs_then old mid new journal first later last =
       let second = later first.now first.on_way in
       record { now = second.now; on_way = last second.now second.on_way; grows = grows_then instance low journal first.now second.now first.grows second.grows }
 
 -- what waited is kept
-pub released : (files : Files) (n : ℕ) (old new : Cursor) (s : PartSign) (journal : List Placed) → old.waiting ≡ Some s → new.waiting ≡ None → new.reader ≡ old.reader
-    → ((before : List Placed) (x : Placed) → IsDrawn x → IsSignOf files old.reader.region (placed_by s) x → Keeps files old.reader.region n old.kept before → Keeps files old.reader.region n new.kept (before ++ x ∷ []))
-    → IsOnWay files n old journal → IsOnWay files n new journal
-released files n old new s journal some none reader keeps is =
+pub released : (files : Files) (instance : List InstanceRecord) (lowest n : ℕ) (old new : Cursor) (s : PartSign) (journal : List Placed) → old.waiting ≡ Some s → new.waiting ≡ None → new.reader ≡ old.reader
+    → ((before : List Placed) (x : Placed) → IsDrawn x → IsSignOf files old.reader.region (placed_by s) x → Keeps files instance lowest old.reader.region n old.kept before → Keeps files instance lowest old.reader.region n new.kept (before ++ x ∷ []))
+    → IsOnWay files instance lowest n old journal → IsOnWay files instance lowest n new journal
+released files instance lowest n old new s journal some none reader keeps is =
     let w : IsWaiting files old.reader.region n s is.before journal = subst (waits_of files old.reader.region n is.before journal) some is.waits in
     record {
       at = subst (λ (p : Reader). IsAt files p journal) (sym reader) is.at;
       before = journal;
       waits = subst (waits_of files new.reader.region n journal journal) (sym none) refl;
-      keeps = subst (λ (p : Reader). Keeps files p.region n new.kept journal) (sym reader)
-          (subst (λ (l : List Placed). Keeps files old.reader.region n new.kept l) (sym w.whole) (keeps is.before w.what w.drawn w.sign is.keeps));
+      keeps = subst (λ (p : Reader). Keeps files instance lowest p.region n new.kept journal) (sym reader)
+          (subst (λ (l : List Placed). Keeps files instance lowest old.reader.region n new.kept l) (sym w.whole) (keeps is.before w.what w.drawn w.sign is.keeps));
     }
 
 not_numbered : (m k : ℕ) (s : PartSign) → s.number ≡ k → (k ≡ m → ⊥) → if_numbered m (Some s) ≡ None
@@ -159,18 +186,18 @@ other_waits m o s is differs = let other : (s.number == m) ≡ false = grind (ar
 
 -- a part of entry n + 1 is settled
 pub settled_part : (files : Files) (n : ℕ) (old new : Cursor) (s : PartSign) → old.waiting ≡ Some s → s.number ≡ n + 1 → new.waiting ≡ None → new.reader ≡ old.reader
-    → ((before : List Placed) (x : Placed) → IsDrawn x → IsSignOf files old.reader.region (placed_by s) x → Keeps files old.reader.region (n + 1) old.kept before → Keeps files old.reader.region (n + 1) new.kept (before ++ x ∷ []))
+    → ((instance : List InstanceRecord) (lowest : ℕ) (before : List Placed) (x : Placed) → IsDrawn x → IsSignOf files old.reader.region (placed_by s) x → Keeps files instance lowest old.reader.region (n + 1) old.kept before → Keeps files instance lowest old.reader.region (n + 1) new.kept (before ++ x ∷ []))
     → Settles files n old new
 settled_part files n old new s some number none reader keeps = record {
-  on_way = λ journal is.
+  on_way = λ instance lowest journal is.
       let w : IsWaiting files old.reader.region n s is.before journal = subst (waits_of files old.reader.region n is.before journal) some is.waits in
       record {
         at = subst (λ (p : Reader). IsAt files p journal) (sym reader) is.at;
         before = journal;
         waits = subst (waits_of files new.reader.region (n + 1) journal journal) (sym none) refl;
-        keeps = subst (λ (p : Reader). Keeps files p.region (n + 1) new.kept journal) (sym reader)
-            (subst (λ (l : List Placed). Keeps files old.reader.region (n + 1) new.kept l) (sym w.whole)
-            (keeps is.before w.what w.drawn w.sign (keeps_later files old.reader.region n (n + 1) old.kept is.before (omega arith) is.keeps)));
+        keeps = subst (λ (p : Reader). Keeps files instance lowest p.region (n + 1) new.kept journal) (sym reader)
+            (subst (λ (l : List Placed). Keeps files instance lowest old.reader.region (n + 1) new.kept l) (sym w.whole)
+            (keeps instance lowest is.before w.what w.drawn w.sign (keeps_later files instance lowest old.reader.region n (n + 1) old.kept is.before (omega arith) is.keeps)));
       };
   told = λ instance journal told m later.
       let gone : if_numbered m old.waiting ≡ None = ap (if_numbered m) some ∙ not_numbered m (n + 1) s number (λ same. omega (arith, same, later)) in
@@ -194,11 +221,11 @@ waits_later files region n (Some s) before journal gone is =
 -- no part of it waits
 pub settled_none : (files : Files) (n : ℕ) (c : Cursor) → if_numbered (n + 1) c.waiting ≡ None → Settles files n c c
 settled_none files n c gone = record {
-  on_way = λ journal is. record {
+  on_way = λ instance lowest journal is. record {
     at = is.at;
     before = is.before;
     waits = waits_later files c.reader.region n c.waiting is.before journal gone is.waits;
-    keeps = keeps_later files c.reader.region n (n + 1) c.kept is.before (omega arith) is.keeps;
+    keeps = keeps_later files instance lowest c.reader.region n (n + 1) c.kept is.before (omega arith) is.keeps;
   };
   told = λ instance journal told m later. told m (omega (arith, later));
 }
@@ -226,15 +253,15 @@ said_part files region s x (least, most) sign =
     sym (ap (λ (b : Bool). if b then Some s else None) yes)
 
 -- a record more is taken in
-module _ (files : Files) (instance : List InstanceRecord) (n low : ℕ) (new : Cursor) (journal : List Placed) (placed : PlacedSign) (x : Placed) (drawn : IsDrawn x) (sign : IsSignOf files new.reader.region placed x) where
+module _ (files : Files) (instance : List InstanceRecord) (lowest n low : ℕ) (new : Cursor) (journal : List Placed) (placed : PlacedSign) (x : Placed) (drawn : IsDrawn x) (sign : IsSignOf files new.reader.region placed x) where
   tells_this : (o : Option PartSign) → part_sign_in placed ≡ o → (m : ℕ) → IsSign files new.reader.region m (if_numbered m (if_surviving instance placed.generation o)) (part_in instance m x.generation x.what)
   tells_this o is m =
       subst (λ (s : Option PartSign). IsSign files new.reader.region m (if_numbered m (if_surviving instance placed.generation s)) (part_in instance m x.generation x.what)) is
       (tells_in files new.reader.region m instance placed x sign drawn)
 
   -- what says nothing of a surviving part is kept or dropped
-  gone_past : (o : Option PartSign) → part_sign_in placed ≡ o → if_surviving instance placed.generation o ≡ None → new.waiting ≡ None → Keeps files new.reader.region n new.kept (journal ++ x ∷ [])
-      → Takes files instance n low new journal x
+  gone_past : (o : Option PartSign) → part_sign_in placed ≡ o → if_surviving instance placed.generation o ≡ None → new.waiting ≡ None → Keeps files instance lowest new.reader.region n new.kept (journal ++ x ∷ [])
+      → Takes files instance lowest n low new journal x
   gone_past o is gone none keeps =
       let told : (m : ℕ) → IsSign files new.reader.region m None (part_in instance m x.generation x.what) =
       λ m. subst (λ (s : Option PartSign). IsSign files new.reader.region m (if_numbered m s) (part_in instance m x.generation x.what)) gone (tells_this o is m) in
@@ -246,15 +273,15 @@ module _ (files : Files) (instance : List InstanceRecord) (n low : ℕ) (new : C
         told = λ m. subst (λ (s : Option PartSign). IsSign files new.reader.region m (if_numbered m s) (part_in instance m x.generation x.what)) (sym none) (told m);
       }
 
-  pub takes_none : None ≡ part_sign_in placed → new.waiting ≡ None → Keeps files new.reader.region n new.kept (journal ++ x ∷ []) → Takes files instance n low new journal x
+  pub takes_none : None ≡ part_sign_in placed → new.waiting ≡ None → Keeps files instance lowest new.reader.region n new.kept (journal ++ x ∷ []) → Takes files instance lowest n low new journal x
   takes_none is none keeps = gone_past None (sym is) refl none keeps
 
-  pub takes_lost : (s : PartSign) → Some s ≡ part_sign_in placed → survives instance placed.generation s.number ≡ false → new.waiting ≡ None → Keeps files new.reader.region n new.kept (journal ++ x ∷ [])
-      → Takes files instance n low new journal x
+  pub takes_lost : (s : PartSign) → Some s ≡ part_sign_in placed → survives instance placed.generation s.number ≡ false → new.waiting ≡ None → Keeps files instance lowest new.reader.region n new.kept (journal ++ x ∷ [])
+      → Takes files instance lowest n low new journal x
   takes_lost s is lost none keeps = gone_past (Some s) (sym is) (ap (λ (b : Bool). if b then Some s else None) lost) none keeps
 
   pub takes_part : (s : PartSign) → Some s ≡ part_sign_in placed → survives instance placed.generation s.number ≡ true → new.waiting ≡ Some s → n ≤ low → low < s.number
-      → placed.offset ≡ bytes_in placed.generation journal → Keeps files new.reader.region n new.kept journal → Takes files instance n low new journal x
+      → placed.offset ≡ bytes_in placed.generation journal → Keeps files instance lowest new.reader.region n new.kept journal → Takes files instance lowest n low new journal x
   takes_part s is lives some least late offset keeps =
       let told : (m : ℕ) → IsSign files new.reader.region m (if_numbered m (Some s)) (part_in instance m x.generation x.what) =
       λ m. subst (λ (b : Bool). IsSign files new.reader.region m (if_numbered m (if b then Some s else None)) (part_in instance m x.generation x.what)) lives (tells_this (Some s) (sym is) m) in

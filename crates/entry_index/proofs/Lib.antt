@@ -6,6 +6,8 @@ pub mod Stands
 mod Cuts
 mod Indexing
 mod Thinning
+mod Either
+mod Forgetting
 mod Readers
 mod Cursors
 mod SideBySide

@@ -49,54 +49,52 @@ pub ready_set : (o n : Option Files) (last : ℕ) (cs : List Cursor) (i : ℕ) (
 ready_set o n last cs i x content ready here =
     all_set (λ r c. IsReady n r last c.reader) cs i x (λ r d low other. subst (λ (z : Option Files). IsReady z r last (get_or cs r d).reader) (sym content) (ready r d low)) here
 
-module _ (files : Files) (n : ℕ) (cs : List Cursor) (journal : ℕ → List Placed) (way : AreOnWay files n cs journal) (i : ℕ) (x : Cursor) (inside : i < length cs) where
-  way_set : (js : List Placed) → IsOnWay files n x js → AreOnWay files n (set cs i x) (put journal i js)
+module _ (files : Files) (instance : List InstanceRecord) (lowest n : ℕ) (cs : List Cursor) (journal : ℕ → List Placed) (way : AreOnWay files instance lowest n cs journal) (i : ℕ) (x : Cursor) (inside : i < length cs) where
+  way_set : (js : List Placed) → IsOnWay files instance lowest n x js → AreOnWay files instance lowest n (set cs i x) (put journal i js)
   way_set js here = record {
-    each = all_set (λ r c. IsOnWay files n c (put journal i js r)) cs i x (λ r d low other. subst (λ (l : List Placed). IsOnWay files n (get_or cs r d) l) (sym (put_other journal i js r other)) (way.each r d low))
-        (subst (λ (l : List Placed). IsOnWay files n x l) (sym (put_same journal i js)) here);
+    each = all_set (λ r c. IsOnWay files instance lowest n c (put journal i js r)) cs i x (λ r d low other. subst (λ (l : List Placed). IsOnWay files instance lowest n (get_or cs r d) l) (sym (put_other journal i js r other)) (way.each r d low))
+        (subst (λ (l : List Placed). IsOnWay files instance lowest n x l) (sym (put_same journal i js)) here);
     no_more = λ r past.
         let high : length cs ≤ r = omega (arith, past, length-set cs i x) in
         put_other journal i js r (λ same. omega (arith, same, high, inside)) ∙ way.no_more r high;
   }
 
-  grows_set : (instance : List InstanceRecord) (low : ℕ) (js : List Placed) → Grows instance low (journal i) js → (r : ℕ) → Grows instance low (journal r) (put journal i js r)
-  grows_set instance low js grows r = elim (cases_eq r i) [
+  grows_set : (low : ℕ) (js : List Placed) → Grows instance low (journal i) js → (r : ℕ) → Grows instance low (journal r) (put journal i js r)
+  grows_set low js grows r = elim (cases_eq r i) [
     | inl same ↦ subst (λ (k : ℕ). Grows instance low (journal k) (put journal i js k)) (sym same) (subst (λ (l : List Placed). Grows instance low (journal i) l) (sym (put_same journal i js)) grows)
     | inr other ↦ subst (λ (l : List Placed). Grows instance low (journal r) l) (sym (put_other journal i js r other)) (grows_none instance low (journal r))
   ]
 
-  pub on_one : (instance : List InstanceRecord) (low : ℕ) (d : Cursor) → ReadsOn files instance n low (get_or cs i d) x (journal i) → AllReadOn files instance n low cs (set cs i x) journal
-  on_one instance low d reads = record {
+  pub on_one : (low : ℕ) (d : Cursor) → ReadsOn files instance lowest n low (get_or cs i d) x (journal i) → AllReadOn files instance lowest n low cs (set cs i x) journal
+  on_one low d reads = record {
     now = put journal i reads.now;
     on_way = way_set reads.now reads.on_way;
-    grows = grows_set instance low reads.now reads.grows;
+    grows = grows_set low reads.now reads.grows;
     told = λ told.
         all_set (λ r c. IsTold files instance n c (put journal i reads.now r)) cs i x
         (λ r e low other. subst (λ (l : List Placed). IsTold files instance n (get_or cs r e) l) (sym (put_other journal i reads.now r other)) (told r e low))
         (subst (λ (l : List Placed). IsTold files instance n x l) (sym (put_same journal i reads.now)) (reads.told (told i d inside)));
   }
 
-  pub out_one : (instance : List InstanceRecord) (low : ℕ) → ReadsOut files instance n low x (journal i) → AllReadOut files instance n low (set cs i x) journal
-  out_one instance low reads = record { now = put journal i reads.now; on_way = way_set reads.now reads.on_way; grows = grows_set instance low reads.now reads.grows }
+  pub out_one : (low : ℕ) → ReadsOut files instance lowest n low x (journal i) → AllReadOut files instance lowest n low (set cs i x) journal
+  out_one low reads = record { now = put journal i reads.now; on_way = way_set reads.now reads.on_way; grows = grows_set low reads.now reads.grows }
 
-module _ (files : Files) (instance : List InstanceRecord) (n low : ℕ) where
-  pub on_none : (cs : List Cursor) (journal : ℕ → List Placed) → AreOnWay files n cs journal → AllReadOn files instance n low cs cs journal
+module _ (files : Files) (instance : List InstanceRecord) (lowest n low : ℕ) where
+  pub on_none : (cs : List Cursor) (journal : ℕ → List Placed) → AreOnWay files instance lowest n cs journal → AllReadOn files instance lowest n low cs cs journal
   on_none cs journal way = record { now = journal; on_way = way; grows = λ r. grows_none instance low (journal r); told = λ told. told }
 
-  pub on_then : (old mid new : List Cursor) (journal : ℕ → List Placed) → AllReadOn files instance n low old mid journal → ((more : ℕ → List Placed) → AreOnWay files n mid more → AllReadOn files instance n low mid new more) → AllReadOn files instance n low old new journal
-  on_then old mid new journal first later =
-      let second = later first.now first.on_way in
-      record {
-        now = second.now;
-        on_way = second.on_way;
-        grows = λ r. grows_then instance low (journal r) (first.now r) (second.now r) (first.grows r) (second.grows r);
-        told = λ told. second.told (first.told told);
-      }
+  pub on_both : (old mid new : List Cursor) (journal : ℕ → List Placed) (first : AllReadOn files instance lowest n low old mid journal) → AllReadOn files instance lowest n low mid new first.now → AllReadOn files instance lowest n low old new journal
+  on_both old mid new journal first second = record {
+    now = second.now;
+    on_way = second.on_way;
+    grows = λ r. grows_then instance low (journal r) (first.now r) (second.now r) (first.grows r) (second.grows r);
+    told = λ told. second.told (first.told told);
+  }
 
-  pub out_none : (cs : List Cursor) (journal : ℕ → List Placed) → AreOnWay files n cs journal → AllReadOut files instance n low cs journal
+  pub out_none : (cs : List Cursor) (journal : ℕ → List Placed) → AreOnWay files instance lowest n cs journal → AllReadOut files instance lowest n low cs journal
   out_none cs journal way = record { now = journal; on_way = way; grows = λ r. grows_none instance low (journal r) }
 
-  pub out_then : (mid new : List Cursor) (journal : ℕ → List Placed) → AllReadOut files instance n low mid journal → ((more : ℕ → List Placed) → AreOnWay files n mid more → AllReadOut files instance n low new more) → AllReadOut files instance n low new journal
+  pub out_then : (mid new : List Cursor) (journal : ℕ → List Placed) → AllReadOut files instance lowest n low mid journal → ((more : ℕ → List Placed) → AreOnWay files instance lowest n mid more → AllReadOut files instance lowest n low new more) → AllReadOut files instance lowest n low new journal
   out_then mid new journal first later =
       let second = later first.now first.on_way in
       record { now = second.now; on_way = second.on_way; grows = λ r. grows_then instance low (journal r) (first.now r) (second.now r) (first.grows r) (second.grows r) }
@@ -104,8 +102,8 @@ module _ (files : Files) (instance : List InstanceRecord) (n low : ℕ) where
 -- all are settled
 pub all_settled : (files : Files) (n : ℕ) (old new : List Cursor) → length new ≡ length old → ((r : ℕ) (d : Cursor) → r < length old → Settles files n (get_or old r d) (get_or new r d)) → AllSettle files n old new
 all_settled files n old new many settles = record {
-  on_way = λ journal way. record {
-    each = λ r d low. let within : r < length old = omega (arith, low, many) in (settles r d within).on_way (journal r) (way.each r d within);
+  on_way = λ instance lowest journal way. record {
+    each = λ r d low. let within : r < length old = omega (arith, low, many) in (settles r d within).on_way instance lowest (journal r) (way.each r d within);
     no_more = λ r past. way.no_more r (omega (arith, past, many));
   };
   told = λ instance journal told r d low. let within : r < length old = omega (arith, low, many) in (settles r d within).told instance (journal r) (told r d within);
@@ -162,8 +160,8 @@ module _ (files : Files) (journal : ℕ → List Placed) (r n m : ℕ) (before :
   waiting_among None (Some p) w is = absurd is
   waiting_among (Some s) x w is = sign_among s (s.number == m) x w is
 
-module _ (files : Files) (instance : List InstanceRecord) (n m : ℕ) (next : n < m) (cs : List Cursor) (journal : ℕ → List Placed) (regions : (r : ℕ) (d : Cursor) → r < length cs → (get_or cs r d).reader.region ≡ r)
-    (way : AreOnWay files n cs journal) (told : AreTold files instance n cs journal) where
+module _ (files : Files) (instance : List InstanceRecord) (lowest n m : ℕ) (next : n < m) (cs : List Cursor) (journal : ℕ → List Placed) (regions : (r : ℕ) (d : Cursor) → r < length cs → (get_or cs r d).reader.region ≡ r)
+    (way : AreOnWay files instance lowest n cs journal) (told : AreTold files instance n cs journal) where
   told_at : (r : ℕ) (d : Cursor) → r < length cs → IsSign files r m (if_numbered m (get_or cs r d).waiting) (part_of instance m (journal r))
   told_at r d low = subst (λ (k : ℕ). IsSign files k m (if_numbered m (get_or cs r d).waiting) (part_of instance m (journal r))) (regions r d low) (told r d low m next)
 
@@ -202,16 +200,16 @@ all_pushed P cs new x more all here r d low = elim (cases_lt r (length cs)) [
       subst (P r) (sym got) (subst (λ (k : ℕ). P k x) same here)
 ]
 
-pub none_begun : (files : Files) → AreOnWay files 0 [] (λ r. [])
-none_begun files = record { each = λ r d low. absurd (omega (arith, low)); no_more = λ r past. refl }
+pub none_begun : (files : Files) (instance : List InstanceRecord) (lowest : ℕ) → AreOnWay files instance lowest 0 [] (λ r. [])
+none_begun files instance lowest = record { each = λ r d low. absurd (omega (arith, low)); no_more = λ r past. refl }
 
 module _ (cs new : List Cursor) (x : Cursor) (more : new ≡ cs ++ x ∷ []) where
   pub ready_pushed : (o n : Option Files) (last : ℕ) → n ≡ o → AreReady o last cs → IsReady n (length cs) last x.reader → AreReady n last new
   ready_pushed o n last content ready here =
       all_pushed (λ r c. IsReady n r last c.reader) cs new x more (λ r d low. subst (λ (z : Option Files). IsReady z r last (get_or cs r d).reader) (sym content) (ready r d low)) here
 
-  pub begun_pushed : (files : Files) → AreOnWay files 0 cs (λ r. []) → IsOnWay files 0 x [] → AreOnWay files 0 new (λ r. [])
-  begun_pushed files way here = record { each = all_pushed (λ r c. IsOnWay files 0 c []) cs new x more way.each here; no_more = λ r past. refl }
+  pub begun_pushed : (files : Files) (instance : List InstanceRecord) (lowest : ℕ) → AreOnWay files instance lowest 0 cs (λ r. []) → IsOnWay files instance lowest 0 x [] → AreOnWay files instance lowest 0 new (λ r. [])
+  begun_pushed files instance lowest way here = record { each = all_pushed (λ r c. IsOnWay files instance lowest 0 c []) cs new x more way.each here; no_more = λ r past. refl }
 
   pub told_pushed : (files : Files) (instance : List InstanceRecord) → AreTold files instance 0 cs (λ r. []) → IsTold files instance 0 x [] → AreTold files instance 0 new (λ r. [])
   told_pushed files instance told here = all_pushed (λ r c. IsTold files instance 0 c []) cs new x more told here

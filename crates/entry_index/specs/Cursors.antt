@@ -1,5 +1,5 @@
 -- A region's journals on the way through them: up to where they are read, and what is kept of their records.
-use Rattle.std.specs.Prelude.{◌≡◌, ℕ, suc, ◌+◌, ◌-◌, ◌*◌, ◌^◌, ◌<◌, ◌≤◌, List, [], ◌∷◌, ◌++◌, length, get_or, Option, Some, None, IfSome}
+use Rattle.std.specs.Prelude.{◌≡◌, ℕ, suc, ◌+◌, ◌-◌, ◌*◌, ◌^◌, ◌<◌, ◌≤◌, Bool, true, false, List, [], ◌∷◌, ◌++◌, length, get_or, Option, Some, None, IfSome}
 use Rattle.std.specs.List.{AllByRecursion}
 use Rattle.disk_defs.specs.Disk.{Files}
 use Rattle.global_defs.specs.Entry.{Sequence}
@@ -22,12 +22,14 @@ use Rattle.entry_index.specs.Signs.{if_numbered, IsSign}
 use Rattle.entry_index.specs.Thinned.{part_generation, IsThinned}
 use Rattle.entry_index.specs.declared.index.EntryIndex.{EntryIndex}
 use Rattle.entry_index.specs.declared.placed.PlacedSign.{PlacedSign}
-use Rattle.entry_index.specs.declared.sign.Sign.TheVariants.{Tcom}
+use Rattle.entry_index.specs.declared.sign.Sign.{Sign}
+use Rattle.entry_index.specs.declared.sign.Sign.TheVariants.{Pini, Epoch, Pblk, Tcom}
 use Rattle.entry_index.specs.declared.signed_part.PartSign.{PartSign}
 use Rattle.entry_index.specs.declared.reader.Reader.{Reader}
 use Rattle.entry_index.specs.declared.reader.Step.{Step}
 use Rattle.entry_index.specs.declared.reader.Step.TheVariants.{Read, Turned, NoRecord}
 use Rattle.entry_index.specs.declared.kept.Kept.{Kept}
+use Rattle.entry_index.specs.declared.kept.EpochSign.{EpochSign}
 use Rattle.entry_index.specs.declared.cursor.Cursor.{Cursor}
 
 -- the sign that says what this one says of a part
@@ -79,12 +81,33 @@ abbrev pub behind_of : Option ℕ → List Placed → Option ℕ
 behind_of behind [] = behind
 behind_of behind (p ∷ ps) = behind_of (part_generation p.generation p.what) ps
 
+-- a sign stays that stands before a floor: of a PINI
+abbrev pub stays_by : Sign → Bool
+stays_by (Pini region before generation previous) = true
+stays_by (Tcom n mask origin count span) = false
+stays_by (Epoch closing n blocks) = false
+stays_by (Pblk block) = false
+
+-- the epoch that a sign is of
+abbrev pub epoch_said : ℕ → Sign → Option EpochSign
+epoch_said g (Epoch closing n blocks) = Some (record { generation = g; number = n })
+epoch_said g (Pini region before generation previous) = None
+epoch_said g (Pblk block) = None
+epoch_said g (Tcom n mask origin count span) = None
+
+-- the last of these signs is that of this epoch
+pub record EndsWith (signs : List PlacedSign) (e : EpochSign) : Type 0 where
+  pub before : List PlacedSign
+  pub last : PlacedSign
+  pub whole : signs ≡ before ++ last ∷ []
+  pub said : epoch_said last.generation last.sign ≡ Some e
+
 -- Of these records of a region those signs are kept that are to be, once n entries are told.
-pub record Keeps (files : Files) (region n : ℕ) (k : Kept) (before : List Placed) : Type 0 where
+pub record Keeps (files : Files) (instance : List InstanceRecord) (lowest region n : ℕ) (k : Kept) (before : List Placed) : Type 0 where
   pub kept : List Placed
   pub are : AreSignsOf files region k.signs.items kept
   pub drawn : AllByRecursion IsDrawn kept
-  pub thinned : IsThinned n None before kept
+  pub thinned : IsThinned instance lowest n None before kept
   pub behind : 1 ≤ k.behind → behind_of None before ≡ Some k.behind
 
 -- The last of these records is the part with this sign, past the first n entries.
@@ -102,11 +125,11 @@ Waits files region n None before journal = journal ≡ before
 Waits files region n (Some s) before journal = IsWaiting files region n s before journal
 
 -- These records of the region are read, and those of the first n entries are settled.
-pub record IsOnWay (files : Files) (n : ℕ) (c : Cursor) (journal : List Placed) : Type 0 where
+pub record IsOnWay (files : Files) (instance : List InstanceRecord) (lowest n : ℕ) (c : Cursor) (journal : List Placed) : Type 0 where
   pub at : IsAt files c.reader journal
   pub before : List Placed
   pub waits : Waits files c.reader.region n c.waiting before journal
-  pub keeps : Keeps files c.reader.region n c.kept before
+  pub keeps : Keeps files instance lowest c.reader.region n c.kept before
 
 -- what waits is the surviving part of each entry past the first n, where these records have one
 abbrev pub IsTold : Files → List InstanceRecord → (n : ℕ) → Cursor → List Placed → Type 0
@@ -123,17 +146,17 @@ pub record Grows (instance : List InstanceRecord) (low : ℕ) (old new : List Pl
   pub none : (m : ℕ) → m ≤ low → part_of instance m rest ≡ None
 
 -- A record more was taken in: it waits, or it's kept, or dropped.
-pub record Takes (files : Files) (instance : List InstanceRecord) (n low : ℕ) (new : Cursor) (journal : List Placed) (x : Placed) : Type 0 where
+pub record Takes (files : Files) (instance : List InstanceRecord) (lowest n low : ℕ) (new : Cursor) (journal : List Placed) (x : Placed) : Type 0 where
   pub before : List Placed
   pub waits : Waits files new.reader.region n new.waiting before (journal ++ x ∷ [])
-  pub keeps : Keeps files new.reader.region n new.kept before
+  pub keeps : Keeps files instance lowest new.reader.region n new.kept before
   pub past : IsPast instance low x
   pub told : (m : ℕ) → IsSign files new.reader.region m (if_numbered m new.waiting) (part_in instance m x.generation x.what)
 
 -- the same of the next record, or it's as before
-pub record ReadsOn (files : Files) (instance : List InstanceRecord) (n low : ℕ) (old new : Cursor) (journal : List Placed) : Type 0 where
+pub record ReadsOn (files : Files) (instance : List InstanceRecord) (lowest n low : ℕ) (old new : Cursor) (journal : List Placed) : Type 0 where
   pub now : List Placed
-  pub on_way : IsOnWay files n new now
+  pub on_way : IsOnWay files instance lowest n new now
   pub grows : Grows instance low journal now
   pub told : IsTold files instance n old journal → IsTold files instance n new now
 
@@ -143,21 +166,25 @@ pub record IsDone (c : Cursor) : Type 0 where
   pub none : c.waiting ≡ None
 
 -- Records more of a region were read, and perhaps kept.
-pub record ReadsOut (files : Files) (instance : List InstanceRecord) (n low : ℕ) (new : Cursor) (journal : List Placed) : Type 0 where
+pub record ReadsOut (files : Files) (instance : List InstanceRecord) (lowest n low : ℕ) (new : Cursor) (journal : List Placed) : Type 0 where
   pub now : List Placed
-  pub on_way : IsOnWay files n new now
+  pub on_way : IsOnWay files instance lowest n new now
   pub grows : Grows instance low journal now
 
 -- the same once n entries are told, whose parts aren't past `low`
 abbrev pub ReadsOnBy : Cuts → ℕ → Cursor → Cursor → Files → Type 0
-ReadsOnBy cuts low old new files = (instance : List InstanceRecord) → AreCuts instance cuts → (n : ℕ) → n ≤ low → low ≤ n + 1 → (journal : List Placed) → IsOnWay files n old journal → ReadsOn files instance n low old new journal
+ReadsOnBy cuts low old new files = (instance : List InstanceRecord) → AreCuts instance cuts → (lowest n : ℕ) → n ≤ low → low ≤ n + 1 → (journal : List Placed) → IsOnWay files instance lowest n old journal → ReadsOn files instance lowest n low old new journal
+
+-- the same once so many entries are told, for a lowest target
+abbrev pub ReadsOnFor : Cuts → (lowest n : ℕ) → Cursor → Cursor → Files → Type 0
+ReadsOnFor cuts lowest n old new files = (instance : List InstanceRecord) → AreCuts instance cuts → (journal : List Placed) → IsOnWay files instance lowest n old journal → IsTold files instance n old journal → ReadsOn files instance lowest n n old new journal
 
 abbrev pub ReadsOutBy : Cuts → ℕ → Cursor → Cursor → Files → Type 0
-ReadsOutBy cuts low old new files = (instance : List InstanceRecord) → AreCuts instance cuts → (n : ℕ) → n ≤ low → low ≤ n + 1 → (journal : List Placed) → IsOnWay files n old journal → ReadsOut files instance n low new journal
+ReadsOutBy cuts low old new files = (instance : List InstanceRecord) → AreCuts instance cuts → (lowest n : ℕ) → n ≤ low → low ≤ n + 1 → (journal : List Placed) → IsOnWay files instance lowest n old journal → ReadsOut files instance lowest n low new journal
 
 -- what waited of entry n + 1 is settled
 pub record Settles (files : Files) (n : ℕ) (old new : Cursor) : Type 0 where
-  pub on_way : (journal : List Placed) → IsOnWay files n old journal → IsOnWay files (n + 1) new journal
+  pub on_way : (instance : List InstanceRecord) (lowest : ℕ) (journal : List Placed) → IsOnWay files instance lowest n old journal → IsOnWay files instance lowest (n + 1) new journal
   pub told : (instance : List InstanceRecord) (journal : List Placed) → IsTold files instance n old journal → IsTold files instance (n + 1) new journal
 
 -- the same region's journals, up to the same generation
@@ -176,34 +203,34 @@ abbrev pub AreReady : Option Files → ℕ → List Cursor → Type 0
 AreReady content last cs = (r : ℕ) (d : Cursor) → r < length cs → IsReady content r last (get_or cs r d).reader
 
 -- These records of all regions are read; other regions have none.
-pub record AreOnWay (files : Files) (n : ℕ) (cs : List Cursor) (journal : ℕ → List Placed) : Type 0 where
-  pub each : (r : ℕ) (d : Cursor) → r < length cs → IsOnWay files n (get_or cs r d) (journal r)
+pub record AreOnWay (files : Files) (instance : List InstanceRecord) (lowest n : ℕ) (cs : List Cursor) (journal : ℕ → List Placed) : Type 0 where
+  pub each : (r : ℕ) (d : Cursor) → r < length cs → IsOnWay files instance lowest n (get_or cs r d) (journal r)
   pub no_more : (r : ℕ) → length cs ≤ r → journal r ≡ []
 
 abbrev pub AreTold : Files → List InstanceRecord → (n : ℕ) → List Cursor → (ℕ → List Placed) → Type 0
 AreTold files instance n cs journal = (r : ℕ) (d : Cursor) → r < length cs → IsTold files instance n (get_or cs r d) (journal r)
 
 -- all regions are read on
-pub record AllReadOn (files : Files) (instance : List InstanceRecord) (n low : ℕ) (old new : List Cursor) (journal : ℕ → List Placed) : Type 0 where
+pub record AllReadOn (files : Files) (instance : List InstanceRecord) (lowest n low : ℕ) (old new : List Cursor) (journal : ℕ → List Placed) : Type 0 where
   pub now : ℕ → List Placed
-  pub on_way : AreOnWay files n new now
+  pub on_way : AreOnWay files instance lowest n new now
   pub grows : (r : ℕ) → Grows instance low (journal r) (now r)
   pub told : AreTold files instance n old journal → AreTold files instance n new now
 
-pub record AllReadOut (files : Files) (instance : List InstanceRecord) (n low : ℕ) (new : List Cursor) (journal : ℕ → List Placed) : Type 0 where
+pub record AllReadOut (files : Files) (instance : List InstanceRecord) (lowest n low : ℕ) (new : List Cursor) (journal : ℕ → List Placed) : Type 0 where
   pub now : ℕ → List Placed
-  pub on_way : AreOnWay files n new now
+  pub on_way : AreOnWay files instance lowest n new now
   pub grows : (r : ℕ) → Grows instance low (journal r) (now r)
 
-abbrev pub AllReadOnBy : Cuts → ℕ → List Cursor → List Cursor → Files → Type 0
-AllReadOnBy cuts low old new files = (instance : List InstanceRecord) → AreCuts instance cuts → (n : ℕ) → n ≤ low → low ≤ n + 1 → (journal : ℕ → List Placed) → AreOnWay files n old journal → AllReadOn files instance n low old new journal
+abbrev pub AllReadOnFor : Cuts → (lowest n : ℕ) → List Cursor → List Cursor → Files → Type 0
+AllReadOnFor cuts lowest n old new files = (instance : List InstanceRecord) → AreCuts instance cuts → (journal : ℕ → List Placed) → AreOnWay files instance lowest n old journal → AreTold files instance n old journal → AllReadOn files instance lowest n n old new journal
 
 abbrev pub AllReadOutBy : Cuts → ℕ → List Cursor → List Cursor → Files → Type 0
-AllReadOutBy cuts low old new files = (instance : List InstanceRecord) → AreCuts instance cuts → (n : ℕ) → n ≤ low → low ≤ n + 1 → (journal : ℕ → List Placed) → AreOnWay files n old journal → AllReadOut files instance n low new journal
+AllReadOutBy cuts low old new files = (instance : List InstanceRecord) → AreCuts instance cuts → (lowest n : ℕ) → n ≤ low → low ≤ n + 1 → (journal : ℕ → List Placed) → AreOnWay files instance lowest n old journal → AllReadOut files instance lowest n low new journal
 
 -- in all regions what waited of entry n + 1 is settled
 pub record AllSettle (files : Files) (n : ℕ) (old new : List Cursor) : Type 0 where
-  pub on_way : (journal : ℕ → List Placed) → AreOnWay files n old journal → AreOnWay files (n + 1) new journal
+  pub on_way : (instance : List InstanceRecord) (lowest : ℕ) (journal : ℕ → List Placed) → AreOnWay files instance lowest n old journal → AreOnWay files instance lowest (n + 1) new journal
   pub told : (instance : List InstanceRecord) (journal : ℕ → List Placed) → AreTold files instance n old journal → AreTold files instance (n + 1) new journal
 
 -- The first entries of these records, by their places in the files and among the records.
@@ -215,19 +242,19 @@ pub record IsBuilt (files : Files) (s : Records) (index : EntryIndex) (rows : �
   pub among : IsIndexOf s.journal (reigns s.instance) index seq
 
 -- So many entries are told of what is read, and the next one isn't there.
-pub record AreAdded (files : Files) (instance : List InstanceRecord) (n : ℕ) (cs : List Cursor) (index : EntryIndex) : Type 0 where
+pub record AreAdded (files : Files) (instance : List InstanceRecord) (lowest n : ℕ) (cs : List Cursor) (index : EntryIndex) : Type 0 where
   pub journal : ℕ → List Placed
-  pub on_way : AreOnWay files n cs journal
+  pub on_way : AreOnWay files instance lowest n cs journal
   pub built : IsBuilt files (record { instance = instance; journal = journal }) index n
   pub ended : entry (record { instance = instance; journal = journal }) (suc n) ≡ None
 
 -- So many entries are told of what is read, whose parts are settled.
-pub record HaveAdded (files : Files) (instance : List InstanceRecord) (n : ℕ) (cs : List Cursor) (index : EntryIndex) : Type 0 where
+pub record HaveAdded (files : Files) (instance : List InstanceRecord) (lowest n : ℕ) (cs : List Cursor) (index : EntryIndex) : Type 0 where
   pub journal : ℕ → List Placed
-  pub on_way : AreOnWay files n cs journal
+  pub on_way : AreOnWay files instance lowest n cs journal
   pub told : AreTold files instance n cs journal
   pub built : IsBuilt files (record { instance = instance; journal = journal }) index n
 
 -- what holds where nothing was read yet by these cursors
-abbrev pub FromStart : Cuts → List ℕ → List Cursor → (Files → List InstanceRecord → Type 0) → Files → Type 0
-FromStart cuts starts cs P files = (instance : List InstanceRecord) → AreCuts instance cuts → AreStarts (reigns instance) starts → (journal : ℕ → List Placed) → AreOnWay files 0 cs journal → AreTold files instance 0 cs journal → P files instance
+abbrev pub FromStart : Cuts → List ℕ → (lowest : ℕ) → List Cursor → (Files → List InstanceRecord → Type 0) → Files → Type 0
+FromStart cuts starts lowest cs P files = (instance : List InstanceRecord) → AreCuts instance cuts → AreStarts (reigns instance) starts → (journal : ℕ → List Placed) → AreOnWay files instance lowest 0 cs journal → AreTold files instance 0 cs journal → P files instance

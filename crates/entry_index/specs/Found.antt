@@ -21,20 +21,21 @@ entry_count index = if index.regions == 0 then 0 else length index.places.items 
 abbrev pub IsWhole : EntryIndex → Type 0
 IsWhole index = length index.places.items ≡ index.regions * entry_count index
 
--- The files hold these records, whose signs are kept, and stand for this sequence, which the index is of.
-pub record AreFound (files : Files) (instance : List InstanceRecord) (signs : List (List PlacedSign)) (index : EntryIndex) (u : Records) (seq : Sequence) : Type 0 where
+-- The files hold these records, whose signs are kept for targets from `lowest` on, and stand for this sequence, which the index is of.
+pub record AreFound (files : Files) (instance : List InstanceRecord) (lowest : ℕ) (signs : List (List PlacedSign)) (index : EntryIndex) (u : Records) (seq : Sequence) : Type 0 where
   pub instance_is : u.instance ≡ instance
   pub held : AreRecords files u
-  pub are_kept : AreKept files (length seq) signs u.journal
+  pub are_kept : AreKept files instance lowest (length seq) signs u.journal
   pub sequence : IsSequence u seq
   pub indexed : Indexes (InFiles files) (reigns instance) index seq
 
--- The journals of the first regions, up to a generation, have these records: they stand for a sequence, which the index is of, and what is kept of them has these signs.
-pub record HaveFound (files : Files) (instance : List InstanceRecord) (regions last : ℕ) (signs : List (List PlacedSign)) (began : List ℕ) (index : EntryIndex) (journal : ℕ → List Placed) : Type 0 where
+-- The journals of the first regions, up to a generation, have these records: they stand for a sequence, which the index is of, and what is kept of them for targets from `lowest`
+-- on has these signs.
+pub record HaveFound (files : Files) (instance : List InstanceRecord) (lowest regions last : ℕ) (signs : List (List PlacedSign)) (began : List ℕ) (index : EntryIndex) (journal : ℕ → List Placed) : Type 0 where
   pub journals : (r : ℕ) → r < regions → IsJournal files r last (get_or began r 0) (journal r)
   pub no_more : (r : ℕ) → regions ≤ r → journal r ≡ []
   pub seq : Sequence
   pub sequence : IsSequence (record { instance = instance; journal = journal }) seq
   pub indexed : Indexes (InFiles files) (reigns instance) index seq
   pub among : IsIndexOf journal (reigns instance) index seq
-  pub kept : AreKept files (length seq) signs journal
+  pub kept : AreKept files instance lowest (length seq) signs journal

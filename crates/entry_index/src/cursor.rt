@@ -2,13 +2,13 @@
 ghost use Rattle.std.specs.Prelude.{◌≡◌, ◌≤◌, ◌<◌, ◌+◌, ℕ, List, [], IfOk, IfSome, OnOk, IsErrOf, IsTrue, Some, None};
 ghost use Rattle.disk_defs.specs.Disk.{Files, Reads, MayFailUncounted};
 ghost use Rattle.journal_defs.specs.Instance as instances;
-ghost use Rattle.journal_defs.specs.Sequence.{Placed};
+ghost use Rattle.journal_defs.specs.Sequence.{Placed, part_of};
 ghost use Rattle.mupip_recover.specs.Cuts.{AreCuts};
 ghost use Rattle.entry_index.specs.Completing.{IsAlone, place_told};
 ghost use Rattle.entry_index.specs.Order.{bytes_in};
 ghost use Rattle.entry_index.specs.Places.{IsSignOf};
 ghost use Rattle.entry_index.specs.Signs.{if_numbered};
-ghost use Rattle.entry_index.specs.Cursors.{IsDrawn, IsReady, IsOnWay, IsTold, IsDone, IsSameRegion, Keeps, Takes, ReadsOnBy, ReadsOutBy, Settles, left, placed_by};
+ghost use Rattle.entry_index.specs.Cursors.{IsDrawn, IsReady, IsOnWay, IsTold, IsDone, IsSameRegion, Keeps, Takes, ReadsOnBy, ReadsOnFor, ReadsOutBy, Settles, left, placed_by};
 
 use crate::completing::is_alone;
 use crate::error::IndexError;
@@ -44,7 +44,7 @@ impl Cursor {
         requires region { region < 8 }
         requires last { last ≤ 65535 }
         ensures ready { IfOk result (λ made. IsReady (D.disk disk.new).content region last made.reader) }
-        ensures begun { IfOk result (λ made. IfSome (D.disk disk.old).content (λ files. IsOnWay files 0 made [])) }
+        ensures begun { IfOk result (λ made. IfSome (D.disk disk.old).content (λ files. (instance : List instances.InstanceRecord) (lowest : ℕ) → IsOnWay files instance lowest 0 made [])) }
         ensures told { IfOk result (λ made. (files : Files) (instance : List instances.InstanceRecord) → IsTold files instance 0 made []) }
         ensures never { (file offset : ℕ) → IsErrOf result (IndexError.NotAFile file offset) → ⊥ }
         ensures reads { Reads (D.disk disk.old) (D.disk disk.new) }
@@ -62,13 +62,13 @@ impl Cursor {
     fn take_part(&mut self, cuts: &Cuts, low: u64, part: PartSign) -> Result<bool, NoMemory>
         requires cuts { (rs : List instances.InstanceRecord) × AreCuts rs cuts.now }
         requires none { self.old.waiting ≡ None }
-        ensures taken { IfOk result (λ more. IsTrue more → (files : Files) (instance : List instances.InstanceRecord) → AreCuts instance cuts.now → (n : ℕ) → n ≤ low → low ≤ n + 1
-            → (journal : List Placed) (x : Placed) → IsDrawn x → IsSignOf files self.old.reader.region (placed_by part) x → part.place.offset ≡ bytes_in part.place.generation journal → Keeps files self.old.reader.region n self.old.kept journal
-            → Takes files instance n low self.new journal x) }
+        ensures taken { IfOk result (λ more. IsTrue more → (files : Files) (instance : List instances.InstanceRecord) → AreCuts instance cuts.now → (lowest n : ℕ) → n ≤ low → low ≤ n + 1
+            → (journal : List Placed) (x : Placed) → IsDrawn x → IsSignOf files self.old.reader.region (placed_by part) x → part.place.offset ≡ bytes_in part.place.generation journal → Keeps files instance lowest self.old.reader.region n self.old.kept journal
+            → Takes files instance lowest n low self.new journal x) }
         ensures same { self.new.reader ≡ self.old.reader }
     {
         if !cuts.spare(part.place.generation, part.number) {
-            self.kept.keep_part(&part, part.number < low)?;
+            self.kept.keep_part(&part, true)?;
             return Ok(true);
         }
         if part.number <= low {
@@ -82,9 +82,9 @@ impl Cursor {
     fn take(&mut self, cuts: &Cuts, low: u64, placed: PlacedSign) -> Result<bool, NoMemory>
         requires cuts { (rs : List instances.InstanceRecord) × AreCuts rs cuts.now }
         requires none { self.old.waiting ≡ None }
-        ensures taken { IfOk result (λ more. IsTrue more → (files : Files) (instance : List instances.InstanceRecord) → AreCuts instance cuts.now → (n : ℕ) → n ≤ low → low ≤ n + 1
-            → (journal : List Placed) (x : Placed) → IsDrawn x → IsSignOf files self.old.reader.region placed x → placed.offset ≡ bytes_in placed.generation journal → Keeps files self.old.reader.region n self.old.kept journal
-            → Takes files instance n low self.new journal x) }
+        ensures taken { IfOk result (λ more. IsTrue more → (files : Files) (instance : List instances.InstanceRecord) → AreCuts instance cuts.now → (lowest n : ℕ) → n ≤ low → low ≤ n + 1
+            → (journal : List Placed) (x : Placed) → IsDrawn x → IsSignOf files self.old.reader.region placed x → placed.offset ≡ bytes_in placed.generation journal → Keeps files instance lowest self.old.reader.region n self.old.kept journal
+            → Takes files instance lowest n low self.new journal x) }
         ensures same { self.new.reader ≡ self.old.reader }
     {
         match part_sign(&placed) {
@@ -124,6 +124,7 @@ impl Cursor {
     }
 
     /// The same, but by what is at hand where that has a part.
+    #[inline(always)]
     fn step<D: Disk>(
         &mut self,
         alloc: Global,
@@ -148,25 +149,47 @@ impl Cursor {
         }
     }
 
-    /// Reads on until a part of a surviving entry waits, or all is read. Answers false where such a part isn't past `low`, or where
-    /// no record can be.
+    /// Whether to read no further for now, as [`Kept::rests`] says. A record behind a part asks for no rest.
+    #[inline(always)]
+    fn rests(&mut self, cuts: &Cuts, settled: u64, lowest: u64) -> Result<bool, NoMemory>
+        requires cuts { (rs : List instances.InstanceRecord) × AreCuts rs cuts.now }
+        ensures kept { OnOk result ((files : Files) (instance : List instances.InstanceRecord) → AreCuts instance cuts.now → (region : ℕ) (before : List Placed)
+            → ((m : ℕ) → settled < m → part_of instance m before ≡ None) → Keeps files instance lowest region settled self.old.kept before → Keeps files instance lowest region settled self.new.kept before) }
+        ensures waiting { self.new.waiting ≡ self.old.waiting }
+        ensures same { self.new.reader ≡ self.old.reader }
+    {
+        if self.kept.behind != 0 {
+            return Ok(false);
+        }
+        self.kept.rests(cuts, settled, lowest)
+    }
+
+    /// Reads on once so many entries are settled, until a part of a surviving entry waits, or a surviving epoch past these entries was
+    /// read to which a target may go back, or all is read. Answers false where such a part isn't past the settled entries, or where no
+    /// record can be. Signs before an epoch past which no target goes back are dropped; `lowest` is the lowest target that may be asked
+    /// for.
+    #[inline(never)]
     pub fn read_on<D: Disk>(
         &mut self,
         alloc: Global,
         disk: &mut D,
         cuts: &Cuts,
-        low: u64,
+        settled: u64,
+        lowest: u64,
     ) -> Result<bool, IndexError>
         requires cuts { (rs : List instances.InstanceRecord) × AreCuts rs cuts.now }
         requires ready { IsReady (D.disk disk.old).content self.old.reader.region self.old.reader.last self.old.reader }
-        ensures read { IfOk result (λ more. IsTrue more → IfSome (D.disk disk.old).content (ReadsOnBy cuts.now low self.old self.new)) }
+        ensures read { IfOk result (λ more. IsTrue more → IfSome (D.disk disk.old).content (ReadsOnFor cuts.now lowest settled self.old self.new)) }
         ensures ready { IfOk result (λ more. IsTrue more → IsReady (D.disk disk.new).content self.old.reader.region self.old.reader.last self.new.reader) }
         ensures never { (file offset : ℕ) → IsErrOf result (IndexError.NotAFile file offset) → ⊥ }
         ensures reads { Reads (D.disk disk.old) (D.disk disk.new) }
         ensures faults { MayFailUncounted (D.disk disk.old).faults (D.disk disk.new).faults (IsErrOf result IndexError.Failed) }
     {
         while self.waiting.is_none() && self.reader.generation <= self.reader.last {
-            if !self.step(alloc, disk, cuts, low)? {
+            if self.rests(cuts, settled, lowest)? {
+                return Ok(true);
+            }
+            if !self.step(alloc, disk, cuts, settled)? {
                 return Ok(false);
             }
         }
@@ -232,7 +255,7 @@ impl Cursor {
 
     /// Keeps what waits, if something does.
     fn release(&mut self) -> Result<(), NoMemory>
-        ensures kept { OnOk result ((files : Files) (n : ℕ) (journal : List Placed) → IsOnWay files n self.old journal → IsOnWay files n self.new journal) }
+        ensures kept { OnOk result ((files : Files) (instance : List instances.InstanceRecord) (lowest n : ℕ) (journal : List Placed) → IsOnWay files instance lowest n self.old journal → IsOnWay files instance lowest n self.new journal) }
         ensures none { OnOk result (self.new.waiting ≡ None) }
         ensures same { self.new.reader ≡ self.old.reader }
     {

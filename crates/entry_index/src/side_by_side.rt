@@ -14,7 +14,7 @@ ghost use Rattle.entry_index.specs.Completing.{IsAlone};
 ghost use Rattle.entry_index.specs.Indexes.{IsNext};
 ghost use Rattle.entry_index.specs.Table.{row_sign, AreSigned, AddsRow};
 ghost use Rattle.mupip_recover.specs.Stamps.{AreStarts};
-ghost use Rattle.entry_index.specs.Cursors.{AreReady, AreOnWay, AreTold, AllReadOnBy, AllReadOutBy, AllSettle, AreAdded, FromStart, IsDone};
+ghost use Rattle.entry_index.specs.Cursors.{AreReady, AreOnWay, AreTold, AllReadOnFor, AllReadOutBy, AllSettle, AreAdded, FromStart, IsDone};
 ghost use Rattle.entry_index.specs.Found.{HaveFound};
 ghost use Rattle.entry_index.specs.Signs.{if_numbered};
 
@@ -42,8 +42,9 @@ const TOO_MANY: u64 = 1 << 40;
 pub struct FoundJournals {
     /// Where the parts of each entry stand.
     pub entries: EntryIndex,
-    /// By region, what its records say, in journal order: of all that are no parts, of the parts past the entries, and of the parts that
-    /// stand behind no part of their generation.
+    /// By region, what its records say, in journal order: of all that are no parts, of the parts past the entries, and of the parts
+    /// that stand behind no part of their generation; but of what stands before an epoch past which no target goes back, perhaps of
+    /// PINIs and of parts past the entries alone.
     pub signs: Vec<Vec<PlacedSign>>,
     /// By region, the last generation that began, or 0.
     pub last_began: Vec<u32>,
@@ -118,7 +119,7 @@ fn begin_all<D: Disk>(
     requires last { last ≤ 65535 }
     ensures many { IfOk result (λ made. length made.items ≡ regions) }
     ensures ready { IfOk result (λ made. AreReady (D.disk disk.new).content last made.items) }
-    ensures begun { IfOk result (λ made. IfSome (D.disk disk.old).content (λ files. AreOnWay files 0 made.items (λ r. []))) }
+    ensures begun { IfOk result (λ made. IfSome (D.disk disk.old).content (λ files. (instance : List instances.InstanceRecord) (lowest : ℕ) → AreOnWay files instance lowest 0 made.items (λ r. []))) }
     ensures told { IfOk result (λ made. (files : Files) (instance : List instances.InstanceRecord) → AreTold files instance 0 made.items (λ r. [])) }
     ensures never { (file offset : ℕ) → IsErrOf result (IndexError.NotAFile file offset) → ⊥ }
     ensures reads { Reads (D.disk disk.old) (D.disk disk.new) }
@@ -132,25 +133,26 @@ fn begin_all<D: Disk>(
     Ok(cursors)
 }
 
-/// Reads each region on until a part waits in it, or all of it is read. Answers false where a region does.
+/// Reads each region on, once so many entries are settled. Answers false where a region does.
 fn read_all_on<D: Disk>(
     alloc: Global,
     disk: &mut D,
     cuts: &Cuts,
-    low: u64,
+    settled: u64,
+    lowest: u64,
     cursors: &mut Vec<Cursor>,
 ) -> Result<bool, IndexError>
     requires cuts { (rs : List instances.InstanceRecord) × AreCuts rs cuts.now }
     requires ready { (last : ℕ) × AreReady (D.disk disk.old).content last cursors.old.items }
     ensures many { IfOk result (λ more. IsTrue more → length cursors.new.items ≡ length cursors.old.items) }
     ensures ready { IfOk result (λ more. IsTrue more → (last : ℕ) → AreReady (D.disk disk.old).content last cursors.old.items → AreReady (D.disk disk.new).content last cursors.new.items) }
-    ensures read { IfOk result (λ more. IsTrue more → IfSome (D.disk disk.old).content (AllReadOnBy cuts.now low cursors.old.items cursors.new.items)) }
+    ensures read { IfOk result (λ more. IsTrue more → IfSome (D.disk disk.old).content (AllReadOnFor cuts.now lowest settled cursors.old.items cursors.new.items)) }
     ensures never { (file offset : ℕ) → IsErrOf result (IndexError.NotAFile file offset) → ⊥ }
     ensures reads { Reads (D.disk disk.old) (D.disk disk.new) }
     ensures faults { MayFailUncounted (D.disk disk.old).faults (D.disk disk.new).faults (IsErrOf result IndexError.Failed) }
 {
     for place in 0..cursors.len() {
-        if !cursors[place].read_on(alloc, disk, cuts, low)? {
+        if !cursors[place].read_on(alloc, disk, cuts, settled, lowest)? {
             return Ok(false);
         }
     }
@@ -263,11 +265,13 @@ fn settle_all(number: u64, cursors: &mut Vec<Cursor>) -> Result<(), NoMemory>
 }
 
 /// Adds the rows of all complete entries, and answers how many these are, or `None` where the journals have to be gone through in turn.
+/// `lowest` is the lowest target that may be asked for.
 fn add_all<D: Disk>(
     alloc: Global,
     disk: &mut D,
     cuts: &Cuts,
     starts: &[u64],
+    lowest: u64,
     cursors: &mut Vec<Cursor>,
     made: &mut EntryIndex,
 ) -> Result<Option<u64>, IndexError>
@@ -276,7 +280,7 @@ fn add_all<D: Disk>(
     requires many { length cursors.old.items ≡ made.old.regions }
     requires none { length made.old.places.items ≡ 0 }
     requires ready { (last : ℕ) × AreReady (D.disk disk.old).content last cursors.old.items }
-    ensures added { IfOk result (λ found. IfSome found (λ n. IfSome (D.disk disk.old).content (FromStart cuts.now starts.now cursors.old.items (λ files instance. AreAdded files instance n cursors.new.items made.new)))) }
+    ensures added { IfOk result (λ found. IfSome found (λ n. IfSome (D.disk disk.old).content (FromStart cuts.now starts.now lowest cursors.old.items (λ files instance. AreAdded files instance lowest n cursors.new.items made.new)))) }
     ensures many { IfOk result (λ found. IfSome found (λ _. length cursors.new.items ≡ length cursors.old.items)) }
     ensures ready { IfOk result (λ found. IfSome found (λ _. (last : ℕ) → AreReady (D.disk disk.old).content last cursors.old.items → AreReady (D.disk disk.new).content last cursors.new.items)) }
     ensures rows { IfOk result (λ found. IfSome found (λ n. length made.new.places.items ≡ made.new.regions * n)) }
@@ -288,7 +292,7 @@ fn add_all<D: Disk>(
 {
     let mut row = Vec::new(alloc);
     for done in 0..TOO_MANY {
-        if !read_all_on(alloc, disk, cuts, done, cursors)? {
+        if !read_all_on(alloc, disk, cuts, done, lowest, cursors)? {
             return Ok(None);
         }
         match add_next(alloc, disk, cursors, &mut row, starts, done + 1, made) {
@@ -327,8 +331,10 @@ fn found_by(
 
 /// Syncs the journals of the first regions up to a generation, looks all through at once, entry by entry, and indexes the entries.
 ///
-/// It reads each file once and keeps no sign of the parts of an entry that is told, but where they begin a run of parts. Answers `None`
-/// where the numbers of a region's surviving parts don't rise, as a site writes them, or some file is no journal.
+/// It reads each file once and keeps no sign of the parts of an entry that is told, but where they begin a run of parts; and, of what
+/// stands before an epoch past which no target goes back, the signs of PINIs and of parts past it alone, or of a few records more.
+/// `lowest` is the lowest target for which the regions may be opened; one past all entries stands for these. Answers `None` where the
+/// numbers of a region's surviving parts don't rise, as a site writes them, or some file is no journal.
 pub fn look_side_by_side<D: Disk>(
     alloc: Global,
     disk: &mut D,
@@ -336,12 +342,13 @@ pub fn look_side_by_side<D: Disk>(
     history: &Reigns,
     regions: u8,
     last: u32,
+    lowest: u64,
 ) -> Result<Option<FoundJournals>, IndexError>
     requires history { history.now ≡ surviving.reigns instance.now }
     requires regions { regions ≤ 8 }
     requires last { last ≤ 65535 }
     ensures found { IfOk result (λ found. IfSome found (λ made. IfSome (D.disk disk.old).content (λ files. (journal : ℕ → List Placed)
-        × HaveFound files instance.now regions last (map (λ s. s.items) made.signs.items) made.last_began.items made.entries journal))) }
+        × HaveFound files instance.now lowest regions last (map (λ s. s.items) made.signs.items) made.last_began.items made.entries journal))) }
     ensures signs { IfOk result (λ found. IfSome found (λ made. length made.signs.items ≡ regions)) }
     ensures began { IfOk result (λ found. IfSome found (λ made. (length made.last_began.items ≡ regions) × ((r : ℕ) → get_or made.last_began.items r 0 ≤ last))) }
     ensures rows { IfOk result (λ found. IfSome found (λ made. (made.entries.regions ≡ regions) × (n : ℕ) × (length made.entries.places.items ≡ regions * n))) }
@@ -360,7 +367,7 @@ pub fn look_side_by_side<D: Disk>(
         regions,
         places: Vec::new(alloc),
     };
-    let Some(count) = add_all(alloc, disk, &cuts, &starts, &mut cursors, &mut made)? else {
+    let Some(count) = add_all(alloc, disk, &cuts, &starts, lowest, &mut cursors, &mut made)? else {
         return Ok(None);
     };
     if !read_all_out(alloc, disk, &cuts, count + 1, &mut cursors)? {

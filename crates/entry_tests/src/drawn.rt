@@ -160,7 +160,9 @@ fn is_beside(
 ) -> bool
     requires { history.now ≡ surviving.reigns instance.now }
 {
-    let found = look_side_by_side(alloc, disk, instance, history, 2, 3).expect(rt, "memory");
+    let found = look_side_by_side(alloc, disk, instance, history, 2, 3, u64::MAX).expect(
+        rt, "memory",
+    );
     let Some(found) = found else {
         return false;
     };

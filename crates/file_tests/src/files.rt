@@ -54,7 +54,7 @@ fn two_regions(rt: HostRuntime) -> Result<(), Fail> {
     let mut disk = MemDisk::new(alloc)?;
     write_bytes(&mut disk, 0, SITE)?;
     write_bytes(&mut disk, 24, FIRST)?;
-    let ReadEntries { read, entries } = read_site(alloc, &mut disk)?;
+    let ReadEntries { read, entries } = read_site(alloc, &mut disk, u64::MAX)?;
     assert_eq!(rt; read.directory.region_of(b"BX"), 1);
     assert_eq!(rt; read.directory.region_of(b"AB"), 0);
     assert_eq!(rt; read.last_began.as_slice(), [1, 0].as_slice());
@@ -74,7 +74,7 @@ fn a_part_past_the_length(rt: HostRuntime) -> Result<(), Fail> {
     write_bytes(&mut disk, 0, REIGNED)?;
     write_bytes(&mut disk, 24, WHOLE)?;
     write_bytes(&mut disk, 25, PAST)?;
-    let ReadEntries { read, entries } = read_site(alloc, &mut disk)?;
+    let ReadEntries { read, entries } = read_site(alloc, &mut disk, u64::MAX)?;
     assert_eq!(rt; count(&read, 0), 2);
     assert_eq!(rt; count(&read, 1), 2);
     assert_eq!(rt; entries.len(), 1);
@@ -92,7 +92,7 @@ fn files_that_are_no_site(rt: HostRuntime) -> Result<(), Fail> {
     let mut disk = MemDisk::new(alloc)?;
     write_bytes(&mut disk, 0, SITE)?;
     write_bytes(&mut disk, 33, SECOND)?;
-    let begun = read_site(alloc, &mut disk).err();
+    let begun = read_site(alloc, &mut disk, u64::MAX).err();
     assert_eq!(rt;
         begun,
         Some(FilesError::NotAFile {
@@ -102,7 +102,7 @@ fn files_that_are_no_site(rt: HostRuntime) -> Result<(), Fail> {
     );
     let mut disk = MemDisk::new(alloc)?;
     write_bytes(&mut disk, 0, ASTRAY)?;
-    let astray = read_site(alloc, &mut disk).err();
+    let astray = read_site(alloc, &mut disk, u64::MAX).err();
     assert_eq!(rt; astray, Some(FilesError::NotAFile { file: 0, offset: 0 }));
     Ok(())
 }

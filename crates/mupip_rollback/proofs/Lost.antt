@@ -58,7 +58,7 @@ module _ (f : FoundFiles) (t : ℕ) (first : List ℕ) where
   IsAdded n old new files = (seq : Sequence) → Indexes (InFiles files) f.read.log.history f.entries seq → IfSome (slice_get seq (n + 1 - 1)) (λ e. new ≡ old ++ entry_text (n + 1) e)
 
   -- by the history that was read
-  pub by_history : (files : Files) (u : Records) (seq : Sequence) → AreFound files f.read.log.records (found_signs f) f.entries u seq → Indexes (InFiles files) f.read.log.history f.entries seq
+  pub by_history : (files : Files) (u : Records) (seq : Sequence) → AreFound files f.read.log.records f.read.lowest (found_signs f) f.entries u seq → Indexes (InFiles files) f.read.log.history f.entries seq
   by_history files u seq found = subst (λ (h : List Reign). Indexes (InFiles files) h f.entries seq) (sym f.read.log.surviving) found.indexed
 
   -- nothing was found where a read tells that the files don't have it
@@ -71,7 +71,7 @@ module _ (f : FoundFiles) (t : ℕ) (first : List ℕ) where
   begun (Some files) = λ u seq found. refl
 
   module _ (has : HasFound f) where
-    size : (files : Files) (u : Records) (seq : Sequence) → AreFound files f.read.log.records (found_signs f) f.entries u seq → entry_count f.entries ≡ length seq
+    size : (files : Files) (u : Records) (seq : Sequence) → AreFound files f.read.log.records f.read.lowest (found_signs f) f.entries u seq → entry_count f.entries ≡ length seq
     size files u seq found = let wide = has.each_place in let some = has.form.some_region in counted f.entries (length seq) (omega (arith, wide, some)) found.indexed.rows
 
     pub goes_on : (o : Option Files) (n : ℕ) (old new : List ℕ) → n < entry_count f.entries → IfSome o (IsWritten n old) → IfSome o (IsAdded n old new) → IfSome o (IsWritten (n + 1) new)

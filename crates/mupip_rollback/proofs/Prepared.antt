@@ -114,21 +114,23 @@ module _ (u v : View) (f : FoundFiles) (has : HasFound f) (was : WasFound u v f)
       (λ files x here. here (found_records f x.0) x.1 x.2.found)
 
   -- what is so of all records of which the signs say so
-  so_of : (P : Records → ℕ → Type 0) → ((journal : ℕ → List Placed) → AllSay (found_signs f) journal → P (found_records f journal) t)
+  so_of : f.read.lowest ≡ to → (P : Records → ℕ → Type 0) → ((journal : ℕ → List Placed) → AllSay f.read.log.records t (found_signs f) journal → P (found_records f journal) t)
       → (files : Files) (journal : ℕ → List Placed) (seq : Sequence) → IsFoundIn v f journal seq files → P (found_records f journal) (min to (length seq))
-  so_of P all files journal seq is = subst (P (found_records f journal)) (t_so files journal seq is) (all journal (signs_say files (length seq) (found_signs f) journal is.found.are_kept))
+  so_of lowest P all files journal seq is =
+      let so = t_so files journal seq is in
+      subst (P (found_records f journal)) so (all journal (signs_say files f.read.log.records f.read.lowest t (length seq) (found_signs f) journal (λ m low least. omega (arith, low, least, so, lowest)) is.found.are_kept))
 
-  pub told_without : (P : Records → ℕ → Type 0) → ((journal : ℕ → List Placed) → AllSay (found_signs f) journal → P (found_records f journal) t)
+  pub told_without : f.read.lowest ≡ to → (P : Records → ℕ → Type 0) → ((journal : ℕ → List Placed) → AllSay f.read.log.records t (found_signs f) journal → P (found_records f journal) t)
       → IfSome u.content (λ files. (x : Records) × (es : Sequence) × AreRecords files x × IsSequence x es × P x (min to (length es)))
-  told_without P all = founded.held_so u v f has was (λ x es. P x (min to (length es))) (so_of P all)
+  told_without lowest P all = founded.held_so u v f has was (λ x es. P x (min to (length es))) (so_of lowest P all)
 
-  pub held_of : (o : Result Prepared RollError) → IfOk o (λ p. p.log.records ≡ f.read.log.records) → IfOk o (λ p. entry_count p.kept.entries ≡ t)
-      → OnOk o ((journal : ℕ → List Placed) → AllSay (found_signs f) journal → NoneIsWithout (found_records f journal) t)
+  pub held_of : f.read.lowest ≡ to → (o : Result Prepared RollError) → IfOk o (λ p. p.log.records ≡ f.read.log.records) → IfOk o (λ p. entry_count p.kept.entries ≡ t)
+      → OnOk o ((journal : ℕ → List Placed) → AllSay f.read.log.records t (found_signs f) journal → NoneIsWithout (found_records f journal) t)
       → IfOk o (λ p. IfSome u.content (λ files. (x : Records) × (es : Sequence) × AreRecords files x × IsSequence x es × (x.instance ≡ p.log.records) × (entry_count p.kept.entries ≡ min to (length es)) × NoneIsWithout x (min to (length es))))
-  held_of (Err e) records kept none = tt
-  held_of (Ok p) records kept none = weaker_told u.content (Given v f)
+  held_of lowest (Err e) records kept none = tt
+  held_of lowest (Ok p) records kept none = weaker_told u.content (Given v f)
       (λ files. (x : Records) × (es : Sequence) × AreRecords files x × IsSequence x es × (x.instance ≡ p.log.records) × (entry_count p.kept.entries ≡ min to (length es)) × NoneIsWithout x (min to (length es))) was.told
-      (λ files x. (found_records f x.0, x.1, x.2.found.held, x.2.found.sequence, sym records, kept ∙ t_so files x.0 x.1 x.2, so_of NoneIsWithout none files x.0 x.1 x.2))
+      (λ files x. (found_records f x.0, x.1, x.2.found.held, x.2.found.sequence, sym records, kept ∙ t_so files x.0 x.1 x.2, so_of lowest NoneIsWithout none files x.0 x.1 x.2))
 
   pub kept_of : (o : Result Prepared RollError) → IfOk o (λ p. p.length ≡ entry_count f.entries) → IfOk o (λ p. entry_count p.kept.entries ≡ t) → IfOk o (λ p. entry_count p.kept.entries ≡ min to p.length)
   kept_of (Err e) all kept = tt

@@ -63,9 +63,11 @@ pub(crate) struct Prepared {
     pub kept: Kept,
 }
 
-/// Syncs and reads a site's files, and sees that neither of the next two generations has begun. It writes nothing.
-fn find<D: Disk>(alloc: Global, disk: &mut D) -> Result<FoundFiles, RollError>
+/// Syncs and reads a site's files, for so many of its first entries, and sees that neither of the next two generations has begun. It
+/// writes nothing.
+fn find<D: Disk>(alloc: Global, disk: &mut D, to: u64) -> Result<FoundFiles, RollError>
     ensures has { IfOk result HasFound }
+    ensures lowest { IfOk result (λ found. found.read.lowest ≡ to) }
     ensures found { IfOk result (WasFound (D.disk disk.old) (D.disk disk.new)) }
     ensures ahead { IfOk result (λ f. IfSome (D.disk disk.old).content (λ _. (d : Files) → Image (D.disk disk.new) d → AreUnbegun (suc (suc (generation f.read.log.records))) (length (regions f.read.log.records)) d)) }
     ensures limit { IsErrOf result RollError.GenLimit → IfSome (D.disk disk.old).content (λ files. (rs : List defs.InstanceRecord) → IsInstance (files INSTANCE) rs → 65534 ≤ generation rs) }
@@ -79,7 +81,7 @@ fn find<D: Disk>(alloc: Global, disk: &mut D) -> Result<FoundFiles, RollError>
     ensures simulated { (D.disk disk.new).simulated ≡ (D.disk disk.old).simulated }
     ensures faults { MayFail (D.disk disk.old).faults (D.disk disk.new).faults (λ fault. IsErrOf result (RollError.Failed fault)) }
 {
-    let found = match find_files(alloc, disk) {
+    let found = match find_files(alloc, disk, to) {
         Ok(found) => found,
         Err(error) => return Err(in_site(error)),
     };
@@ -93,8 +95,8 @@ fn find<D: Disk>(alloc: Global, disk: &mut D) -> Result<FoundFiles, RollError>
 /// Sees that no region needs forward recovery for so many entries.
 fn check_images(alloc: Global, found: &FoundFiles, target: u64) -> Result<(), RollError>
     requires has { HasFound found.now }
-    ensures none { OnOk result ((journal : ℕ → List Placed) → AllSay (found_signs found.now) journal → NoneIsWithout (found_records found.now journal) target) }
-    ensures first { (region generation : ℕ) → IsErrOf result (RollError.NoBeforeImage region generation) → (journal : ℕ → List Placed) → AllSay (found_signs found.now) journal → IsFirstWithout (found_records found.now journal) target region generation }
+    ensures none { OnOk result ((journal : ℕ → List Placed) → AllSay found.now.read.log.records target (found_signs found.now) journal → NoneIsWithout (found_records found.now journal) target) }
+    ensures first { (region generation : ℕ) → IsErrOf result (RollError.NoBeforeImage region generation) → (journal : ℕ → List Placed) → AllSay found.now.read.log.records target (found_signs found.now) journal → IsFirstWithout (found_records found.now journal) target region generation }
     ensures causes { OnErr result (((region : ℕ) × (generation : ℕ) × IsErrOf result (RollError.NoBeforeImage region generation)) ⊎ IsErrOf result RollError.NoMemory) }
 {
     match first_needing(alloc, found, target)? {
@@ -207,6 +209,7 @@ fn open_first<D: Disk>(
 ) -> Result<Prepared, RollError>
     requires has { HasFound found }
     requires target { target ≤ entry_count found.entries }
+    requires lowest { min found.read.lowest (entry_count found.entries) ≤ target }
     ensures kept { IfOk result (λ p. entry_count p.kept.entries ≡ target) }
     ensures prepared { IfOk result (λ p. WasFound (D.disk disk.old) (D.disk disk.old) found → IfSome (D.disk disk.old).content (λ _. (d : Files) → Image (D.disk disk.old) d → AreUnbegun (suc (suc (generation found.read.log.records))) (length (regions found.read.log.records)) d) → IsPrepared (D.disk disk.new) p) }
     ensures records { IfOk result (λ p. p.log.records ≡ found.read.log.records) }
@@ -215,8 +218,8 @@ fn open_first<D: Disk>(
     ensures place { (file offset : ℕ) → IsErrOf result (RollError.NotAFile file offset) → (to : ℕ) → target ≡ min to (entry_count found.entries) → IfSome (D.disk disk.old).content (IfFound found (λ u seq files. IsOutsideRollback to files file offset)) }
     ensures outside { (file offset : ℕ) → IsErrOf result (RollError.NotAFile file offset) → WasFound (D.disk disk.old) (D.disk disk.old) found → IfSome (D.disk disk.old).content (λ files. (c : Contents) → IsSite files c → ⊥) }
     ensures limit { IsErrOf result RollError.GenLimit → ⊥ }
-    ensures first { (region generation : ℕ) → IsErrOf result (RollError.NoBeforeImage region generation) → (journal : ℕ → List Placed) → AllSay (found_signs found) journal → IsFirstWithout (found_records found journal) target region generation }
-    ensures none { OnOk result ((journal : ℕ → List Placed) → AllSay (found_signs found) journal → NoneIsWithout (found_records found journal) target) }
+    ensures first { (region generation : ℕ) → IsErrOf result (RollError.NoBeforeImage region generation) → (journal : ℕ → List Placed) → AllSay found.read.log.records target (found_signs found) journal → IsFirstWithout (found_records found journal) target region generation }
+    ensures none { OnOk result ((journal : ℕ → List Placed) → AllSay found.read.log.records target (found_signs found) journal → NoneIsWithout (found_records found journal) target) }
     ensures no_forward { (region : ℕ) → IsErrOf result (RollError.NeedForward region) → ⊥ }
     ensures reads { Reads (D.disk disk.old) (D.disk disk.new) }
     ensures faults { MayFail (D.disk disk.old).faults (D.disk disk.new).faults (λ fault. IsErrOf result (RollError.Failed fault)) }
@@ -250,7 +253,7 @@ pub(crate) fn prepare<D: Disk>(alloc: Global, disk: &mut D, to: u64) -> Result<P
     ensures simulated { (D.disk disk.new).simulated ≡ (D.disk disk.old).simulated }
     ensures faults { MayFail (D.disk disk.old).faults (D.disk disk.new).faults (λ fault. IsErrOf result (RollError.Failed fault)) }
 {
-    let found = find(alloc, disk)?;
+    let found = find(alloc, disk, to)?;
     let target = to.min(found.entries.len());
     open_first(alloc, disk, found, target)
 }

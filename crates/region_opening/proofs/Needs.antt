@@ -49,10 +49,10 @@ module _ (instance : List InstanceRecord) (t : ℕ) where
   }
 
   -- what is told of the records that are kept is so of all
-  pub none_whole : (signs : List (List PlacedSign)) (n : ℕ) → ((journal : ℕ → List Placed) → AllTell signs journal → NoneNeeds instance t journal n) → (journal : ℕ → List Placed) → AllSay signs journal → NoneNeeds instance t journal n
+  pub none_whole : (signs : List (List PlacedSign)) (n : ℕ) → ((journal : ℕ → List Placed) → AllTell signs journal → NoneNeeds instance t journal n) → (journal : ℕ → List Placed) → AllSay instance t signs journal → NoneNeeds instance t journal n
   none_whole signs n none journal say r low = sym (forward_same instance t say.told (journal r) (say.kept r) (say.thinned r)) ∙ none say.kept say.say r low
 
-  pub first_whole : (signs : List (List PlacedSign)) (n : ℕ) (x : WithoutImages) → ((journal : ℕ → List Placed) → AllTell signs journal → IsFirstWithout instance t journal n x) → (journal : ℕ → List Placed) → AllSay signs journal
+  pub first_whole : (signs : List (List PlacedSign)) (n : ℕ) (x : WithoutImages) → ((journal : ℕ → List Placed) → AllTell signs journal → IsFirstWithout instance t journal n x) → (journal : ℕ → List Placed) → AllSay instance t signs journal
       → IsFirstWithout instance t journal n x
   first_whole signs n x found journal say =
       let first = found say.kept say.say in

@@ -453,8 +453,8 @@ pub files_are : (ps : List Pattern) (t : ℕ) (rs ms : List Standing) → ms ≡
 files_are ps t rs ms same own r low = (own r (slice_index_or ms r no_region) (here_in rs ms same r low)).file
 
 -- its entries are transactions of their form, and the signs are those of the records that are kept
-given_of : (files : Files) (instance : List InstanceRecord) (signs : List (List PlacedSign)) (index : EntryIndex) (u : Records) (seq : Sequence) (found : AreFound files instance signs index u seq) → AreGiven files instance signs index found.are_kept.kept seq
-given_of files instance signs index u seq found = record { are_signs = found.are_kept.are; indexed = found.indexed; forms = formed.entries files u seq found.held found.sequence }
+given_of : (files : Files) (instance : List InstanceRecord) (lowest : ℕ) (signs : List (List PlacedSign)) (index : EntryIndex) (u : Records) (seq : Sequence) (found : AreFound files instance lowest signs index u seq) → AreGiven files instance signs index found.are_kept.kept seq
+given_of files instance lowest signs index u seq found = record { are_signs = found.are_kept.are; indexed = found.indexed; forms = formed.entries files u seq found.held found.sequence }
 
 -- what is told of all regions, of which these are the same
 module _ (o : Option Files) (instance : List InstanceRecord) (signs : List (List PlacedSign)) (index : EntryIndex) (t : ℕ) (some : 1 ≤ index.regions) (within : t ≤ entry_count index) (ps : List Pattern) (are : ps ≡ patterns instance)
@@ -464,29 +464,29 @@ module _ (o : Option Files) (instance : List InstanceRecord) (signs : List (List
   Told files = (journal : ℕ → List Placed) (seq : Sequence) → AreGiven files instance signs index journal seq → (r : ℕ) (s : Standing) → slice_get rs r ≡ Some s → IsOpened instance t seq (journal r) r s files
 
   -- each region is open over all records, too
-  opened_at : (files : Files) → Told files → (u : Records) (seq : Sequence) → AreFound files instance signs index u seq → (r : ℕ) (s : Standing) → slice_get rs r ≡ Some s → IsOpened instance t seq (u.journal r) r s files
+  opened_at : (files : Files) → Told files → (u : Records) (seq : Sequence) → AreFound files instance t signs index u seq → (r : ℕ) (s : Standing) → slice_get rs r ≡ Some s → IsOpened instance t seq (u.journal r) r s files
   opened_at files opens u seq found r s here =
       let k = found.are_kept in
-      opened_whole instance t (length seq) (u.journal r) (k.kept r) (k.thinned r) r files seq s (opens k.kept seq (given_of files instance signs index u seq found) r s here)
+      opened_whole instance t (length seq) (u.journal r) (k.kept r) (k.thinned r) r files seq s (opens k.kept seq (given_of files instance t signs index u seq found) r s here)
 
-  sound_at : (files : Files) → Told files → (u : Records) (seq : Sequence) → AreFound files instance signs index u seq → IsSoundImage files u seq → ArePartsOf ps rs (take t seq)
+  sound_at : (files : Files) → Told files → (u : Records) (seq : Sequence) → AreFound files instance t signs index u seq → IsSoundImage files u seq → ArePartsOf ps rs (take t seq)
   sound_at files opens u seq found image =
       let many = count_is files (reigns instance) index seq some found.indexed in
       subst (λ (qs : List Pattern). ArePartsOf qs rs (take t seq)) (ap patterns found.instance_is ∙ sym are)
       (sound_parts files u t seq rs (counted ∙ ap (λ (i : List InstanceRecord). length (regions i)) (sym found.instance_is))
       (subst (λ (i : List InstanceRecord). (r : ℕ) (s : Standing) → slice_get rs r ≡ Some s → IsOpened i t seq (u.journal r) r s files) (sym found.instance_is) (opened_at files opens u seq found)) (omega (arith, within, many)) image)
 
-  pub parts_told : IfSome o (λ files. (u : Records) (seq : Sequence) → AreFound files instance signs index u seq → IsSoundImage files u seq → ArePartsOf ps ms (take t seq))
-  parts_told = weaker_told o Told (λ files. (u : Records) (seq : Sequence) → AreFound files instance signs index u seq → IsSoundImage files u seq → ArePartsOf ps ms (take t seq)) told
+  pub parts_told : IfSome o (λ files. (u : Records) (seq : Sequence) → AreFound files instance t signs index u seq → IsSoundImage files u seq → ArePartsOf ps ms (take t seq))
+  parts_told = weaker_told o Told (λ files. (u : Records) (seq : Sequence) → AreFound files instance t signs index u seq → IsSoundImage files u seq → ArePartsOf ps ms (take t seq)) told
       (λ files opens u seq found image. subst (λ (xs : List Standing). ArePartsOf ps xs (take t seq)) (sym same) (sound_at files opens u seq found image))
 
-  pub state_told : (all : Globals) → ((xs : Sequence) → ArePartsOf ps rs xs → all ≡ state xs) → IfSome o (λ files. (u : Records) (seq : Sequence) → AreFound files instance signs index u seq → IsSoundImage files u seq → all ≡ state (take t seq))
-  state_told all joins = weaker_told o Told (λ files. (u : Records) (seq : Sequence) → AreFound files instance signs index u seq → IsSoundImage files u seq → all ≡ state (take t seq)) told
+  pub state_told : (all : Globals) → ((xs : Sequence) → ArePartsOf ps rs xs → all ≡ state xs) → IfSome o (λ files. (u : Records) (seq : Sequence) → AreFound files instance t signs index u seq → IsSoundImage files u seq → all ≡ state (take t seq))
+  state_told all joins = weaker_told o Told (λ files. (u : Records) (seq : Sequence) → AreFound files instance t signs index u seq → IsSoundImage files u seq → all ≡ state (take t seq)) told
       (λ files opens u seq found image. joins (take t seq) (sound_at files opens u seq found image))
 
-  pub holds_told : IfSome o (λ files. (u : Records) (seq : Sequence) → AreFound files instance signs index u seq → (r : ℕ) → r < length ms → NeedsForward instance t (u.journal r) ⊎ HoldsRegion (gone_back u t r) (files (database_file r)) (slice_index_or ms r no_region))
+  pub holds_told : IfSome o (λ files. (u : Records) (seq : Sequence) → AreFound files instance t signs index u seq → (r : ℕ) → r < length ms → NeedsForward instance t (u.journal r) ⊎ HoldsRegion (gone_back u t r) (files (database_file r)) (slice_index_or ms r no_region))
   holds_told = weaker_told o Told
-      (λ files. (u : Records) (seq : Sequence) → AreFound files instance signs index u seq → (r : ℕ) → r < length ms → NeedsForward instance t (u.journal r) ⊎ HoldsRegion (gone_back u t r) (files (database_file r)) (slice_index_or ms r no_region)) told
+      (λ files. (u : Records) (seq : Sequence) → AreFound files instance t signs index u seq → (r : ℕ) → r < length ms → NeedsForward instance t (u.journal r) ⊎ HoldsRegion (gone_back u t r) (files (database_file r)) (slice_index_or ms r no_region)) told
       (λ files opens u seq found r low.
       let s = slice_index_or ms r no_region in
       subst (λ (i : List InstanceRecord). NeedsForward instance t (u.journal r) ⊎ HoldsRegion (chosen i t (u.journal r)) (files (database_file r)) s) (sym found.instance_is)
@@ -495,17 +495,17 @@ module _ (o : Option Files) (instance : List InstanceRecord) (signs : List (List
 -- the first region that can't be opened, as the disk tells it
 module _ (o : Option Files) (instance : List InstanceRecord) (signs : List (List PlacedSign)) (index : EntryIndex) (t n f offset : ℕ) (some : 1 ≤ index.regions) (within : t ≤ entry_count index) (counted : n ≡ length (regions instance))
     (told : IfSome o (AreGivenRefused o instance signs index t n f offset)) where
-  there_refused : (files : Files) → AreGivenRefused o instance signs index t n f offset files → (u : Records) (seq : Sequence) → AreFound files instance signs index u seq → AreRefused u.instance t seq u.journal n f offset files
+  there_refused : (files : Files) → AreGivenRefused o instance signs index t n f offset files → (u : Records) (seq : Sequence) → AreFound files instance t signs index u seq → AreRefused u.instance t seq u.journal n f offset files
   there_refused files all u seq found = subst (λ (i : List InstanceRecord). AreRefused i t seq u.journal n f offset files) (sym found.instance_is)
-      (all_refused_whole instance t (length seq) u.journal found.are_kept.kept found.are_kept.thinned seq n f offset files (all found.are_kept.kept seq (given_of files instance signs index u seq found)))
+      (all_refused_whole instance t (length seq) u.journal found.are_kept.kept found.are_kept.thinned seq n f offset files (all found.are_kept.kept seq (given_of files instance t signs index u seq found)))
 
-  pub outside_told : (aim : ℕ → ℕ) → aim (entry_count index) ≡ t → IfSome o (λ files. (u : Records) (seq : Sequence) → AreFound files instance signs index u seq → HaveOutsideBlocks aim files f offset)
-  outside_told aim is = weaker_told o (AreGivenRefused o instance signs index t n f offset) (λ files. (u : Records) (seq : Sequence) → AreFound files instance signs index u seq → HaveOutsideBlocks aim files f offset) told
+  pub outside_told : (aim : ℕ → ℕ) → aim (entry_count index) ≡ t → IfSome o (λ files. (u : Records) (seq : Sequence) → AreFound files instance t signs index u seq → HaveOutsideBlocks aim files f offset)
+  outside_told aim is = weaker_told o (AreGivenRefused o instance signs index t n f offset) (λ files. (u : Records) (seq : Sequence) → AreFound files instance t signs index u seq → HaveOutsideBlocks aim files f offset) told
       (λ files all u seq found. refused_blocks files u t seq n f offset (counted ∙ ap (λ (i : List InstanceRecord). length (regions i)) (sym found.instance_is)) (there_refused files all u seq found) aim
       (ap aim (sym (count_is files (reigns instance) index seq some found.indexed)) ∙ is) found.held found.sequence)
 
-  pub unsound_told : IfSome o (λ files. (u : Records) (seq : Sequence) → AreFound files instance signs index u seq → IsSoundImage files u seq → ⊥)
-  unsound_told = weaker_told o (AreGivenRefused o instance signs index t n f offset) (λ files. (u : Records) (seq : Sequence) → AreFound files instance signs index u seq → IsSoundImage files u seq → ⊥) told
+  pub unsound_told : IfSome o (λ files. (u : Records) (seq : Sequence) → AreFound files instance t signs index u seq → IsSoundImage files u seq → ⊥)
+  unsound_told = weaker_told o (AreGivenRefused o instance signs index t n f offset) (λ files. (u : Records) (seq : Sequence) → AreFound files instance t signs index u seq → IsSoundImage files u seq → ⊥) told
       (λ files all u seq found image.
       let many = count_is files (reigns instance) index seq some found.indexed in
       refused_sound files u t seq n f offset (counted ∙ ap (λ (i : List InstanceRecord). length (regions i)) (sym found.instance_is)) (there_refused files all u seq found) (omega (arith, within, many)) image (formed.entries files u seq found.held found.sequence))
@@ -520,8 +520,8 @@ anew_refused instance t seq n f offset files all =
     (subst (λ (g : Globals). AreOutside (image_state (beginning []) blocks) g all.refused.block) (parts.begins (patterns instance) all.region) all.refused.outside)
 
 module _ (o : Option Files) (instance : List InstanceRecord) (index : EntryIndex) (t : ℕ) (some : 1 ≤ index.regions) (all_entries : t ≡ entry_count index) where
-  pub anew_told : (n f offset : ℕ) → IfSome o (AreGivenRefused o instance [] index t n f offset) → IfSome o (λ files. (signs : List (List PlacedSign)) (u : Records) (seq : Sequence) → AreFound files instance signs index u seq → ⊥)
-  anew_told n f offset told = weaker_told o (AreGivenRefused o instance [] index t n f offset) (λ files. (signs : List (List PlacedSign)) (u : Records) (seq : Sequence) → AreFound files instance signs index u seq → ⊥) told (λ files all signs u seq found.
+  pub anew_told : (n f offset : ℕ) → IfSome o (AreGivenRefused o instance [] index t n f offset) → IfSome o (λ files. (lowest : ℕ) (signs : List (List PlacedSign)) (u : Records) (seq : Sequence) → AreFound files instance lowest signs index u seq → ⊥)
+  anew_told n f offset told = weaker_told o (AreGivenRefused o instance [] index t n f offset) (λ files. (lowest : ℕ) (signs : List (List PlacedSign)) (u : Records) (seq : Sequence) → AreFound files instance lowest signs index u seq → ⊥) told (λ files all lowest signs u seq found.
       anew_refused instance t seq n f offset files (all (λ r. []) seq (record { are_signs = none_signed files; indexed = found.indexed; forms = formed.entries files u seq found.held found.sequence })))
 
   -- they have their parts of the state of all entries
@@ -532,15 +532,15 @@ module _ (o : Option Files) (instance : List InstanceRecord) (index : EntryIndex
     abbrev Made : AnyRegion → Files → Type 0
     Made i files = (seq : Sequence) → Indexes (InFiles files) (reigns instance) index seq → i.1.globals ≡ region_state (patterns instance) i.0 (take t seq)
 
-    parts_of : (files : Files) → ((i : AnyRegion) → Made i files) → (signs : List (List PlacedSign)) (u : Records) (seq : Sequence) → AreFound files instance signs index u seq → ArePartsOf ps rs seq
-    parts_of files made signs u seq found =
+    parts_of : (files : Files) → ((i : AnyRegion) → Made i files) → (lowest : ℕ) (signs : List (List PlacedSign)) (u : Records) (seq : Sequence) → AreFound files instance lowest signs index u seq → ArePartsOf ps rs seq
+    parts_of files made lowest signs u seq found =
         let whole : take t seq ≡ seq = ap (λ (n : ℕ). take n seq) (all_entries ∙ count_is files (reigns instance) index seq some found.indexed) ∙ take-length seq in
         are_parts ps rs seq (λ r s here. made (r, s, here) seq found.indexed ∙ ap (region_state (patterns instance) r) whole ∙ ap (λ (qs : List Pattern). region_state qs r seq) (sym are))
 
-    pub anew_parts : (ms : List Standing) → ms ≡ rs → IfSome o (λ files. (signs : List (List PlacedSign)) (u : Records) (seq : Sequence) → AreFound files instance signs index u seq → ArePartsOf ps ms seq)
-    anew_parts ms same = weaker_told o (λ files. (i : AnyRegion) → Made i files) (λ files. (signs : List (List PlacedSign)) (u : Records) (seq : Sequence) → AreFound files instance signs index u seq → ArePartsOf ps ms seq)
-        (each_told o Made (λ i. told i.0 i.1 i.2)) (λ files made signs u seq found. subst (λ (xs : List Standing). ArePartsOf ps xs seq) (sym same) (parts_of files made signs u seq found))
+    pub anew_parts : (ms : List Standing) → ms ≡ rs → IfSome o (λ files. (lowest : ℕ) (signs : List (List PlacedSign)) (u : Records) (seq : Sequence) → AreFound files instance lowest signs index u seq → ArePartsOf ps ms seq)
+    anew_parts ms same = weaker_told o (λ files. (i : AnyRegion) → Made i files) (λ files. (lowest : ℕ) (signs : List (List PlacedSign)) (u : Records) (seq : Sequence) → AreFound files instance lowest signs index u seq → ArePartsOf ps ms seq)
+        (each_told o Made (λ i. told i.0 i.1 i.2)) (λ files made lowest signs u seq found. subst (λ (xs : List Standing). ArePartsOf ps xs seq) (sym same) (parts_of files made lowest signs u seq found))
 
-    pub anew_state : (all : Globals) → ((xs : Sequence) → ArePartsOf ps rs xs → all ≡ state xs) → IfSome o (λ files. (signs : List (List PlacedSign)) (u : Records) (seq : Sequence) → AreFound files instance signs index u seq → all ≡ state seq)
-    anew_state all joins = weaker_told o (λ files. (i : AnyRegion) → Made i files) (λ files. (signs : List (List PlacedSign)) (u : Records) (seq : Sequence) → AreFound files instance signs index u seq → all ≡ state seq)
-        (each_told o Made (λ i. told i.0 i.1 i.2)) (λ files made signs u seq found. joins seq (parts_of files made signs u seq found))
+    pub anew_state : (all : Globals) → ((xs : Sequence) → ArePartsOf ps rs xs → all ≡ state xs) → IfSome o (λ files. (lowest : ℕ) (signs : List (List PlacedSign)) (u : Records) (seq : Sequence) → AreFound files instance lowest signs index u seq → all ≡ state seq)
+    anew_state all joins = weaker_told o (λ files. (i : AnyRegion) → Made i files) (λ files. (lowest : ℕ) (signs : List (List PlacedSign)) (u : Records) (seq : Sequence) → AreFound files instance lowest signs index u seq → all ≡ state seq)
+        (each_told o Made (λ i. told i.0 i.1 i.2)) (λ files made lowest signs u seq found. joins seq (parts_of files made lowest signs u seq found))

@@ -16,9 +16,9 @@ use Rattle.region_opening.specs.Opening.{blocks_of, IsInside, IsHeldFrom, IsOpen
 use Rattle.region_opening.proofs.Thinning.{IsSameEpoch, chosen_same, image_same, state_same, forward_same}
 
 -- a region's blocks against an epoch and the database file
-holds_same : (n : ℕ) (whole kept : Chosen) (bytes : List ℕ) (s : Standing) → IsSameEpoch n whole kept → HoldsRegion kept bytes s → HoldsRegion whole bytes s
-holds_same n whole kept bytes s same holds =
-    let image = λ (b : ℕ). image_same n b None whole.after kept.after same.after in
+holds_same : (instance : List InstanceRecord) (t n : ℕ) (whole kept : Chosen) (bytes : List ℕ) (s : Standing) → IsSameEpoch instance t n whole kept → HoldsRegion kept bytes s → HoldsRegion whole bytes s
+holds_same instance t n whole kept bytes s same holds =
+    let image = λ (b : ℕ). image_same instance t n b None whole.after kept.after same.last same.after in
     let low = λ (b : ℕ) (is : b < whole.blocks). subst (λ (k : ℕ). b < k) (sym same.blocks) is in
     record {
       clean = holds.clean;
@@ -31,7 +31,7 @@ holds_same n whole kept bytes s same holds =
       whole = λ b is. holds.whole b (low b is);
     }
 
-module _ (instance : List InstanceRecord) (t n : ℕ) (js ks : List Placed) (thin : IsThinned n None js ks) where
+module _ (instance : List InstanceRecord) (t n : ℕ) (js ks : List Placed) (thin : IsThinned instance t n None js ks) where
   -- the epoch that is chosen over all records, and over those that are kept
   abbrev whole : Chosen
   whole = chosen instance t js
@@ -39,7 +39,7 @@ module _ (instance : List InstanceRecord) (t n : ℕ) (js ks : List Placed) (thi
   abbrev kept : Chosen
   kept = chosen instance t ks
 
-  same : IsSameEpoch n whole kept
+  same : IsSameEpoch instance t n whole kept
   same = chosen_same instance t n js ks thin
 
   needs : NeedsForward instance t ks → NeedsForward instance t js
@@ -53,7 +53,7 @@ module _ (instance : List InstanceRecord) (t n : ℕ) (js ks : List Placed) (thi
     database = block_of (files (database_file r))
 
     blocks_same : blocks_of instance t ks r files ≡ blocks_of instance t js r files
-    blocks_same = state_same n whole kept database same
+    blocks_same = state_same instance t n whole kept database same
 
     pub inside_whole : IsInside instance t ks r files → IsInside instance t js r files
     inside_whole (inl forward) = inl (needs forward)
@@ -61,7 +61,7 @@ module _ (instance : List InstanceRecord) (t n : ℕ) (js ks : List Placed) (thi
 
     held_whole : (s : Standing) → IsHeldFrom instance t ks r s files → IsHeldFrom instance t js r s files
     held_whole s (inl forward) = inl (needs forward)
-    held_whole s (inr holds) = inr (holds_same n whole kept (files (database_file r)) s same holds)
+    held_whole s (inr holds) = inr (holds_same instance t n whole kept (files (database_file r)) s same holds)
 
     sound_kept : (of : Sequence → Globals) (seq : Sequence) → IsSound of instance seq js database t → IsSound of instance seq ks database t
     sound_kept of seq (inl forward) = inl (needs_back forward)
@@ -85,7 +85,7 @@ module _ (instance : List InstanceRecord) (t n : ℕ) (js ks : List Placed) (thi
       offset_is = refused.offset_is;
     }
 
-pub all_refused_whole : (instance : List InstanceRecord) (t n : ℕ) (journal keeps : ℕ → List Placed) → ((r : ℕ) → IsThinned n None (journal r) (keeps r)) → (seq : Sequence) (count f offset : ℕ) (files : Files)
+pub all_refused_whole : (instance : List InstanceRecord) (t n : ℕ) (journal keeps : ℕ → List Placed) → ((r : ℕ) → IsThinned instance t n None (journal r) (keeps r)) → (seq : Sequence) (count f offset : ℕ) (files : Files)
     → AreRefused instance t seq keeps count f offset files → AreRefused instance t seq journal count f offset files
 all_refused_whole instance t n journal keeps thin seq count f offset files all = record {
   region = all.region;

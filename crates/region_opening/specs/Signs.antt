@@ -29,12 +29,12 @@ Say signs journal = AllZip Says signs journal
 abbrev pub AllTell : List (List PlacedSign) → (ℕ → List Placed) → Type 0
 AllTell signs journal = (r : ℕ) → Say (signs_of signs r) (journal r)
 
--- The signs are those of the records that are kept of all regions, once some number of entries is told.
-pub record AllSay (signs : List (List PlacedSign)) (journal : ℕ → List Placed) : Type 0 where
+-- The signs are those of the records that are kept of all regions for targets from t on, once some number of entries is told.
+pub record AllSay (instance : List InstanceRecord) (t : ℕ) (signs : List (List PlacedSign)) (journal : ℕ → List Placed) : Type 0 where
   pub told : ℕ
   pub kept : ℕ → List Placed
   pub say : AllTell signs kept
-  pub thinned : (r : ℕ) → IsThinned told None (journal r) (kept r)
+  pub thinned : (r : ℕ) → IsThinned instance t told None (journal r) (kept r)
 
 -- the generation is one that there may be
 abbrev pub IsDrawn : Placed → Type 0

@@ -44,8 +44,8 @@ pub fn first_without_images(
     target: u64,
 ) -> Result<Option<WithoutImages>, NoMemory>
     requires few { length signs.now ≤ 8 }
-    ensures none { IfOk result (λ found. found ≡ None → (journal : ℕ → List Placed) → AllSay (map (λ s. s.items) signs.now) journal → NoneNeeds instance.now target journal (length signs.now)) }
-    ensures first { IfOk result (λ found. IfSome found (λ x. (journal : ℕ → List Placed) → AllSay (map (λ s. s.items) signs.now) journal → IsFirstWithout instance.now target journal (length signs.now) x)) }
+    ensures none { IfOk result (λ found. found ≡ None → (journal : ℕ → List Placed) → AllSay instance.now target (map (λ s. s.items) signs.now) journal → NoneNeeds instance.now target journal (length signs.now)) }
+    ensures first { IfOk result (λ found. IfSome found (λ x. (journal : ℕ → List Placed) → AllSay instance.now target (map (λ s. s.items) signs.now) journal → IsFirstWithout instance.now target journal (length signs.now) x)) }
 {
     for number in 0..signs.len() {
         let region = signs_at(signs, number);

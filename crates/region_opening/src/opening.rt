@@ -262,16 +262,16 @@ pub fn open_regions<D: Disk>(
     ensures none { IfOk result (λ made. target ≡ 0 → joined made ≡ globals.empty) }
     ensures some { IfOk result (λ made. (seq : Sequence) × (joined made ≡ state seq)) }
     // on a sound site they are the state of the entries up to the target
-    ensures state { IfOk result (λ made. IfSome (D.disk disk.old).content (λ files. (u : Records) (seq : Sequence) → AreFound files instance.now (map (λ s. s.items) signs.now) entries.now u seq → IsSoundImage files u seq → joined made ≡ state (take target seq))) }
+    ensures state { IfOk result (λ made. IfSome (D.disk disk.old).content (λ files. (u : Records) (seq : Sequence) → AreFound files instance.now target (map (λ s. s.items) signs.now) entries.now u seq → IsSoundImage files u seq → joined made ≡ state (take target seq))) }
     // and each region has its part
-    ensures parts { IfOk result (λ made. IfSome (D.disk disk.old).content (λ files. (u : Records) (seq : Sequence) → AreFound files instance.now (map (λ s. s.items) signs.now) entries.now u seq → IsSoundImage files u seq → ArePartsOf directory.patterns made.regions (take target seq))) }
+    ensures parts { IfOk result (λ made. IfSome (D.disk disk.old).content (λ files. (u : Records) (seq : Sequence) → AreFound files instance.now target (map (λ s. s.items) signs.now) entries.now u seq → IsSoundImage files u seq → ArePartsOf directory.patterns made.regions (take target seq))) }
     // the blocks of a region are those of the epoch to which it goes back and the file
-    ensures holds { IfOk result (λ made. IfSome (D.disk disk.old).content (λ files. (u : Records) (seq : Sequence) → AreFound files instance.now (map (λ s. s.items) signs.now) entries.now u seq
+    ensures holds { IfOk result (λ made. IfSome (D.disk disk.old).content (λ files. (u : Records) (seq : Sequence) → AreFound files instance.now target (map (λ s. s.items) signs.now) entries.now u seq
         → (r : ℕ) → r < length made.regions → NeedsForward instance.now target (u.journal r) ⊎ HoldsRegion (gone_back u target r) (files (database_file r)) (region_at made r))) }
     ensures held { IfOk result (λ made. IfSome (D.disk disk.old).content (λ files. (r : ℕ) → r < length made.regions → IsHeld (region_at made r) files)) }
     ensures outside { (f offset : ℕ) → IsErrOf result (RegionError.NotAFile f offset) → (aim : ℕ → ℕ) → aim (entry_count entries.now) ≡ target
-        → IfSome (D.disk disk.old).content (λ files. (u : Records) (seq : Sequence) → AreFound files instance.now (map (λ s. s.items) signs.now) entries.now u seq → HaveOutsideBlocks aim files f offset) }
-    ensures unsound { (f offset : ℕ) → IsErrOf result (RegionError.NotAFile f offset) → IfSome (D.disk disk.old).content (λ files. (u : Records) (seq : Sequence) → AreFound files instance.now (map (λ s. s.items) signs.now) entries.now u seq → IsSoundImage files u seq → ⊥) }
+        → IfSome (D.disk disk.old).content (λ files. (u : Records) (seq : Sequence) → AreFound files instance.now target (map (λ s. s.items) signs.now) entries.now u seq → HaveOutsideBlocks aim files f offset) }
+    ensures unsound { (f offset : ℕ) → IsErrOf result (RegionError.NotAFile f offset) → IfSome (D.disk disk.old).content (λ files. (u : Records) (seq : Sequence) → AreFound files instance.now target (map (λ s. s.items) signs.now) entries.now u seq → IsSoundImage files u seq → ⊥) }
     ensures reads { Reads (D.disk disk.old) (D.disk disk.new) }
     ensures faults { MayFail (D.disk disk.old).faults (D.disk disk.new).faults (λ fault. IsErrOf result (RegionError.Failed fault)) }
 {

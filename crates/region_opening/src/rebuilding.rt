@@ -46,11 +46,11 @@ pub fn rebuild_regions<D: Disk>(
     ensures none { IfOk result (λ made. entry_count entries.now ≡ 0 → joined made ≡ globals.empty) }
     ensures some { IfOk result (λ made. (seq : Sequence) × (joined made ≡ state seq)) }
     // all nodes are the state of the entries, whatever the blocks are
-    ensures state { IfOk result (λ made. IfSome (D.disk disk.old).content (λ files. (signs : List (List PlacedSign)) (u : Records) (seq : Sequence) → AreFound files instance.now signs entries.now u seq → joined made ≡ state seq)) }
+    ensures state { IfOk result (λ made. IfSome (D.disk disk.old).content (λ files. (lowest : ℕ) (signs : List (List PlacedSign)) (u : Records) (seq : Sequence) → AreFound files instance.now lowest signs entries.now u seq → joined made ≡ state seq)) }
     // and each region has its part
-    ensures parts { IfOk result (λ made. IfSome (D.disk disk.old).content (λ files. (signs : List (List PlacedSign)) (u : Records) (seq : Sequence) → AreFound files instance.now signs entries.now u seq → ArePartsOf directory.patterns made.regions seq)) }
+    ensures parts { IfOk result (λ made. IfSome (D.disk disk.old).content (λ files. (lowest : ℕ) (signs : List (List PlacedSign)) (u : Records) (seq : Sequence) → AreFound files instance.now lowest signs entries.now u seq → ArePartsOf directory.patterns made.regions seq)) }
     ensures held { IfOk result (λ made. IfSome (D.disk disk.old).content (λ files. (r : ℕ) → r < length made.regions → IsHeld (region_at made r) files)) }
-    ensures outside { (f offset : ℕ) → IsErrOf result (RegionError.NotAFile f offset) → IfSome (D.disk disk.old).content (λ files. (signs : List (List PlacedSign)) (u : Records) (seq : Sequence) → AreFound files instance.now signs entries.now u seq → ⊥) }
+    ensures outside { (f offset : ℕ) → IsErrOf result (RegionError.NotAFile f offset) → IfSome (D.disk disk.old).content (λ files. (lowest : ℕ) (signs : List (List PlacedSign)) (u : Records) (seq : Sequence) → AreFound files instance.now lowest signs entries.now u seq → ⊥) }
     ensures reads { Reads (D.disk disk.old) (D.disk disk.new) }
     ensures faults { MayFail (D.disk disk.old).faults (D.disk disk.new).faults (λ fault. IsErrOf result (RegionError.Failed fault)) }
 {

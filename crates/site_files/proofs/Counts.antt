@@ -38,9 +38,9 @@ counted files rs index seq is = elim (cases_eq index.regions 0) [
 ]
 
 -- what was found in the journals, with the records that files hold
-pub are_found : (files : Files) (rs : List InstanceRecord) (n g : ℕ) (signs : List (List PlacedSign)) (began : List ℕ) (index : EntryIndex) (journal : ℕ → List Placed) → n ≡ length (regions rs) → g ≡ generation rs
-    → IsInstance (files INSTANCE) rs → (found : HaveFound files rs n g signs began index journal) → AreFound files rs signs index (record { instance = rs; journal = journal }) found.seq
-are_found files rs n g signs began index journal many newest is found = record {
+pub are_found : (files : Files) (rs : List InstanceRecord) (lowest n g : ℕ) (signs : List (List PlacedSign)) (began : List ℕ) (index : EntryIndex) (journal : ℕ → List Placed) → n ≡ length (regions rs) → g ≡ generation rs
+    → IsInstance (files INSTANCE) rs → (found : HaveFound files rs lowest n g signs began index journal) → AreFound files rs lowest signs index (record { instance = rs; journal = journal }) found.seq
+are_found files rs lowest n g signs began index journal many newest is found = record {
   instance_is = refl;
   held = record {
     instance = is;

@@ -1,11 +1,12 @@
 -- The parts past a length, as they are read by the signs of a region's records.
-use Rattle.std.proofs.Common.{◌≡◌, inl, inr, ℕ, zero, suc, ◌+◌, ◌≤◌, ◌<◌, Bool, true, false, cond, List, [], ◌∷◌, ◌++◌, length, map, take, get_or, Option, None, IfSome, Err, IsErrOf, refl, sym, ◌∙◌, ap, subst, arith}
+use Rattle.std.proofs.Common.{◌≡◌, ◌⊎◌, inl, inr, ℕ, zero, suc, ◌+◌, ◌≤◌, ◌<◌, Bool, true, false, cond, List, [], ◌∷◌, ◌++◌, length, map, take, get_or, Option, Some, None, IfSome, if◌then◌else◌, Err, IsErrOf, refl, sym, ◌∙◌, ap, subst, arith}
 use Rattle.std.proofs.Math.Path.{fun_ext}
 use Rattle.std.proofs.lemmas.Bool.{cases_Bool, cases_lt}
 use Rattle.std.proofs.lemmas.Bool.Decides.{nat_tests}
 use Rattle.std.proofs.lemmas.List.{length-map, get_or_past, get_or_append_left, get_or_push, map-append, take_all}
 use Rattle.std.proofs.lemmas.List.Elements.{filter-append}
 use Rattle.std.specs.List.{AllZip, AllByRecursion, flat_map, enumerate_from, cons_option}
+use Rattle.std.specs.Prelude.{◌&&◌, nat_lt}
 use Rattle.disk_defs.specs.Disk.{Files}
 use Rattle.disk_defs.proofs.Told.{told_at, weaker_told, both_weak}
 use Rattle.journal_defs.specs.Numbers.{journal_file}
@@ -14,6 +15,7 @@ use Rattle.journal_defs.specs.Journal.{JournalRecord, Part}
 use Rattle.journal_defs.specs.Instance.{InstanceRecord, NamedMode, regions}
 use Rattle.journal_defs.specs.Broken.{BrokenPart, part_past, parts_past, broken}
 use Rattle.journal_defs.specs.Sequence.{Placed}
+use Rattle.journal_defs.specs.Surviving.{survives}
 use Rattle.jnl_file.specs.declared.error.JournalError.{JournalError}
 use Rattle.jnl_file.specs.declared.error.JournalError.TheVariants as journals
 use Rattle.jnl_record.specs.declared.placed.PlacedRecord.{PlacedRecord}
@@ -22,7 +24,7 @@ use Rattle.entry_index.specs.declared.placed.PlacedSign.{PlacedSign}
 use Rattle.entry_index.specs.Places.{StandsAt, IsSignOf}
 use Rattle.entry_index.specs.RecordSigns.{sign_of}
 use Rattle.entry_index.specs.Indexes.{AreSigns}
-use Rattle.entry_index.specs.Thinned.{IsThinned, IsSettled, part_generation}
+use Rattle.entry_index.specs.Thinned.{IsThinned, IsSettled, MayGo, part_generation}
 use Rattle.mupip_recover.specs.Site.{journal_of}
 use Rattle.site_files.specs.Errors.{placed_error}
 use Rattle.site_files.specs.declared.error.FilesError.{FilesError}
@@ -56,26 +58,41 @@ broken_past rs n journal past are =
     ap (λ (f : ℕ × NamedMode → List BrokenPart). flat_map f (enumerate_from 0 (regions rs)))
     (fun_ext (λ r. ap (λ (ps : List Part). map (λ (p : Part). let made : BrokenPart = record { region = r.1.name; part = p } in made) ps) (ap (parts_past rs n) (are r.0) ∙ only_past rs n (journal r.0))))
 
--- what is dropped of records is no part past the length
-settled_low : (n : ℕ) (x : JournalRecord) → IsSettled n x → is_past n x ≡ false
-settled_low n (journal.Pini s) settled = absurd settled
-settled_low n (journal.Epoch m) settled = absurd settled
-settled_low n (journal.Pblk b) settled = absurd settled
-settled_low n (journal.Tcom p) settled = grind (arith, nat_tests)
+-- what is dropped of records is no surviving part past the length
+over_none : (n : ℕ) (lives : Bool) (p : Part) → (p.number ≤ n) ⊎ (lives ≡ false) → (if nat_lt n p.number && lives then Some p else None) ≡ None
+over_none n lives p (inl least) = let low : nat_lt n p.number ≡ false = grind (arith, nat_tests, least) in rw low refl
+over_none n lives p (inr lost) = ap (λ (b : Bool). if nat_lt n p.number && b then Some p else None) lost ∙ no_part (nat_lt n p.number) p
+  where
+    no_part : (b : Bool) (q : Part) → (if b && false then Some q else None) ≡ None
+    no_part true q = refl
+    no_part false q = refl
 
-past_kept : (n : ℕ) (behind : Option ℕ) (js kept : List Placed) → IsThinned n behind js kept → all_past n kept ≡ all_past n js
-past_kept n behind [] kept thin = ap (all_past n) thin
-past_kept n behind (p ∷ ps) kept (inl stays) =
-    ap (all_past n) stays.1 ∙ elim (cases_Bool (is_past n p.what)) [
-      | inl holds ↦ rw holds (ap (λ (l : List Placed). p ∷ l) (past_kept n (part_generation p.generation p.what) ps stays.0 stays.2))
-      | inr fails ↦ rw fails (past_kept n (part_generation p.generation p.what) ps stays.0 stays.2)
-    ]
-past_kept n behind (p ∷ ps) kept (inr goes) = rw (settled_low n p.what goes.1) (past_kept n behind ps kept goes.2)
+settled_none : (rs : List InstanceRecord) (n g : ℕ) (x : JournalRecord) → IsSettled rs n g x → part_past rs n g x ≡ None
+settled_none rs n g (journal.Pini s) settled = absurd settled
+settled_none rs n g (journal.Epoch m) settled = absurd settled
+settled_none rs n g (journal.Pblk b) settled = absurd settled
+settled_none rs n g (journal.Tcom p) settled = over_none n (survives rs g p.number) p settled
+
+may_none : (rs : List InstanceRecord) (n g : ℕ) (x : JournalRecord) → MayGo rs n g x → part_past rs n g x ≡ None
+may_none rs n g (journal.Pini s) may = absurd may
+may_none rs n g (journal.Epoch m) may = refl
+may_none rs n g (journal.Pblk b) may = refl
+may_none rs n g (journal.Tcom p) may = over_none n (survives rs g p.number) p may
+
+past_kept : (rs : List InstanceRecord) (lowest n : ℕ) (behind : Option ℕ) (js kept : List Placed) → IsThinned rs lowest n behind js kept → parts_past rs n kept ≡ parts_past rs n js
+past_kept rs lowest n behind [] kept thin = ap (parts_past rs n) thin
+past_kept rs lowest n behind (p ∷ ps) kept (inl stays) =
+    ap (parts_past rs n) stays.1 ∙ ap (cons_option (part_past rs n p.generation p.what)) (past_kept rs lowest n (part_generation p.generation p.what) ps stays.0 stays.2)
+past_kept rs lowest n behind (p ∷ ps) kept (inr (inl goes)) =
+    past_kept rs lowest n behind ps kept goes.2 ∙ ap (λ (o : Option Part). cons_option o (parts_past rs n ps)) (sym (settled_none rs n p.generation p.what goes.1))
+past_kept rs lowest n behind (p ∷ ps) kept (inr (inr goes)) =
+    past_kept rs lowest n (part_generation p.generation p.what) ps kept goes.2 ∙ ap (λ (o : Option Part). cons_option o (parts_past rs n ps)) (sym (may_none rs n p.generation p.what goes.1))
 
 -- so what is kept of them is enough for the broken list
-pub broken_kept : (rs : List InstanceRecord) (n : ℕ) (journal kept : ℕ → List Placed) → ((r : ℕ) → IsThinned n None (journal r) (kept r)) → broken (record { instance = rs; journal = kept }) n ≡ broken (record { instance = rs; journal = journal }) n
-broken_kept rs n journal kept thin =
-    sym (broken_past rs n kept (λ r. all_past n (kept r)) (λ r. refl)) ∙ broken_past rs n journal (λ r. all_past n (kept r)) (λ r. past_kept n None (journal r) (kept r) (thin r))
+pub broken_kept : (rs : List InstanceRecord) (lowest n : ℕ) (journal kept : ℕ → List Placed) → ((r : ℕ) → IsThinned rs lowest n None (journal r) (kept r)) → broken (record { instance = rs; journal = kept }) n ≡ broken (record { instance = rs; journal = journal }) n
+broken_kept rs lowest n journal kept thin =
+    ap (λ (f : ℕ × NamedMode → List BrokenPart). flat_map f (enumerate_from 0 (regions rs)))
+    (fun_ext (λ r. ap (λ (ps : List Part). map (λ (p : Part). let made : BrokenPart = record { region = r.1.name; part = p } in made) ps) (past_kept rs lowest n None (journal r.0) (kept r.0) (thin r.0))))
 
 -- the record whose sign stands at a place
 pub record IsAt (files : Files) (region : ℕ) (s : PlacedSign) (journal : List Placed) (i : ℕ) : Type 0 where

@@ -55,9 +55,9 @@ module _ (o : Option Files) (rs : List InstanceRecord) (reads : IfSome o (λ fil
       no have.0 s.journal have.1)
 
 -- the records that were found, together
-pub are_held : (o : Option Files) (rs : List InstanceRecord) (began : List ℕ) (signs : List (List PlacedSign)) (index : EntryIndex) (n g : ℕ) → n ≡ length (regions rs) → g ≡ generation rs
-    → IfSome o (λ files. IsInstance (files INSTANCE) rs) → IfSome o (λ files. (journal : ℕ → List Placed) × HaveFound files rs n g signs began index journal)
-    → IfSome o (λ files. (u : Records) × (seq : Sequence) × AreFound files rs signs index u seq)
-are_held o rs began signs index n g many newest is have =
-    both_weak o (λ files. IsInstance (files INSTANCE) rs) (λ files. (journal : ℕ → List Placed) × HaveFound files rs n g signs began index journal) (λ files. (u : Records) × (seq : Sequence) × AreFound files rs signs index u seq) is have
-    (λ files here there. (record { instance = rs; journal = there.0 }, there.1.seq, are_found files rs n g signs began index there.0 many newest here there.1))
+pub are_held : (o : Option Files) (rs : List InstanceRecord) (lowest : ℕ) (began : List ℕ) (signs : List (List PlacedSign)) (index : EntryIndex) (n g : ℕ) → n ≡ length (regions rs) → g ≡ generation rs
+    → IfSome o (λ files. IsInstance (files INSTANCE) rs) → IfSome o (λ files. (journal : ℕ → List Placed) × HaveFound files rs lowest n g signs began index journal)
+    → IfSome o (λ files. (u : Records) × (seq : Sequence) × AreFound files rs lowest signs index u seq)
+are_held o rs lowest began signs index n g many newest is have =
+    both_weak o (λ files. IsInstance (files INSTANCE) rs) (λ files. (journal : ℕ → List Placed) × HaveFound files rs lowest n g signs began index journal) (λ files. (u : Records) × (seq : Sequence) × AreFound files rs lowest signs index u seq) is have
+    (λ files here there. (record { instance = rs; journal = there.0 }, there.1.seq, are_found files rs lowest n g signs began index there.0 many newest here there.1))

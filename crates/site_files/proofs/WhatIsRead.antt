@@ -103,12 +103,12 @@ may_be_opened rs d last g order form directory fits newest low began = record {
 }
 
 -- what the steps of reading found, together
-pub was_read : (o : Option Files) (v w x : View) (rs : List InstanceRecord) (began : List ℕ) (signs : List (List PlacedSign)) (index : EntryIndex) (n g next : ℕ) → n ≡ length (regions rs) → g ≡ generation rs → next ≡ suc (generation rs)
+pub was_read : (o : Option Files) (v w x : View) (rs : List InstanceRecord) (lowest : ℕ) (began : List ℕ) (signs : List (List PlacedSign)) (index : EntryIndex) (n g next : ℕ) → n ≡ length (regions rs) → g ≡ generation rs → next ≡ suc (generation rs)
     → IsLawful w → IsLawful x → AtEachMoment v w (Image v) → AtEachMoment w x (Image w) → IfSome o (λ files. IsInstance (files INSTANCE) rs) → IfSome o (λ files. IsDurable v INSTANCE (files INSTANCE))
-    → IfSome o (λ files. (journal : ℕ → List Placed) × HaveFound files rs n g signs began index journal) → IfSome o (AreAllDurable w n g) → IfSome o (AreUnbegun n next) → IfSome o (AreUnbegunDurable x n next)
-    → IfSome o (λ files. (journal : ℕ → List Placed) × (seq : Sequence) × WasRead x rs (last_of began) journal files × AreFound files rs signs index (record { instance = rs; journal = journal }) seq × IsIndexOf journal (reigns rs) index seq)
-was_read None v w x rs began signs index n g next many newest drawn lawful_w lawful_x first second is durable have kept unbegun kept_next = tt
-was_read (Some files) v w x rs began signs index n g next many newest drawn lawful_w lawful_x first second is durable have kept unbegun kept_next = (
+    → IfSome o (λ files. (journal : ℕ → List Placed) × HaveFound files rs lowest n g signs began index journal) → IfSome o (AreAllDurable w n g) → IfSome o (AreUnbegun n next) → IfSome o (AreUnbegunDurable x n next)
+    → IfSome o (λ files. (journal : ℕ → List Placed) × (seq : Sequence) × WasRead x rs (last_of began) journal files × AreFound files rs lowest signs index (record { instance = rs; journal = journal }) seq × IsIndexOf journal (reigns rs) index seq)
+was_read None v w x rs lowest began signs index n g next many newest drawn lawful_w lawful_x first second is durable have kept unbegun kept_next = tt
+was_read (Some files) v w x rs lowest began signs index n g next many newest drawn lawful_w lawful_x first second is durable have kept unbegun kept_next = (
   have.0,
   have.1.seq,
   record {
@@ -123,6 +123,6 @@ was_read (Some files) v w x rs began signs index n g next many newest drawn lawf
         (λ h least most. durable_kept w x (journal_file h r) (files (journal_file h r)) lawful_x second (kept r (omega (arith, here, many)) h least most));
     next = λ r here. subst (λ (k : ℕ). IsDurable x (journal_file k r) (files (journal_file k r))) drawn (kept_next r (omega (arith, here, many)));
   },
-  are_found files rs n g signs began index have.0 many newest is have.1,
+  are_found files rs lowest n g signs began index have.0 many newest is have.1,
   have.1.among,
 )

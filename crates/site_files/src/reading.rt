@@ -54,6 +54,8 @@ pub struct ReadSite {
     pub signs: Vec<Vec<PlacedSign>>,
     /// The last generation that began in each region, or 0.
     pub last_began: Vec<u32>,
+    /// The lowest target for which its regions may be opened; one past all entries stands for these.
+    pub lowest: u64,
     pub ghost few: { length signs.items ≤ 8 },
 }
 
@@ -170,8 +172,8 @@ fn read_in_turn<D: Disk>(
 ) -> Result<FoundJournals, FilesError>
     requires regions { regions ≤ 8 }
     requires last { last ≤ 65535 }
-    ensures found { IfOk result (λ made. IfSome (D.disk disk.old).content (λ files. (journal : ℕ → List Placed)
-        × HaveFound files log.now.records regions last (map (λ s. s.items) made.signs.items) made.last_began.items made.entries journal)) }
+    ensures found { IfOk result (λ made. IfSome (D.disk disk.old).content (λ files. (lowest : ℕ) → (journal : ℕ → List Placed)
+        × HaveFound files log.now.records lowest regions last (map (λ s. s.items) made.signs.items) made.last_began.items made.entries journal)) }
     ensures many { IfOk result (λ made. length made.signs.items ≡ regions) }
     ensures many_last { IfOk result (λ made. length made.last_began.items ≡ regions) }
     ensures began { IfOk result (λ made. (r : ℕ) → last_of made.last_began.items r ≤ last) }
@@ -194,18 +196,20 @@ fn read_in_turn<D: Disk>(
     })
 }
 
-/// Syncs and reads the journals of the first regions up to a generation, and indexes the entries.
+/// Syncs and reads the journals of the first regions up to a generation, and indexes the entries. `lowest` is the lowest target for
+/// which the regions may be opened.
 fn read_journals<D: Disk>(
     alloc: Global,
     disk: &mut D,
     log: &InstanceLog,
     regions: u8,
     last: u32,
+    lowest: u64,
 ) -> Result<FoundJournals, FilesError>
     requires regions { regions ≤ 8 }
     requires last { last ≤ 65535 }
     ensures found { IfOk result (λ made. IfSome (D.disk disk.old).content (λ files. (journal : ℕ → List Placed)
-        × HaveFound files log.now.records regions last (map (λ s. s.items) made.signs.items) made.last_began.items made.entries journal)) }
+        × HaveFound files log.now.records lowest regions last (map (λ s. s.items) made.signs.items) made.last_began.items made.entries journal)) }
     ensures many { IfOk result (λ made. length made.signs.items ≡ regions) }
     ensures many_last { IfOk result (λ made. length made.last_began.items ≡ regions) }
     ensures began { IfOk result (λ made. (r : ℕ) → last_of made.last_began.items r ≤ last) }
@@ -220,7 +224,7 @@ fn read_journals<D: Disk>(
     ensures causes { OnErr result (((fault : ℕ) × IsErrOf result (FilesError.Failed fault)) ⊎ ((file : ℕ) × (offset : ℕ) × IsErrOf result (FilesError.NotAFile file offset)) ⊎ IsErrOf result FilesError.NoMemory) }
 {
     let records = &log.records;
-    match look_side_by_side(alloc, disk, records, &log.history, regions, last) {
+    match look_side_by_side(alloc, disk, records, &log.history, regions, last, lowest) {
         Ok(Some(found)) => Ok(found),
         Ok(None) => read_in_turn(alloc, disk, log, regions, last),
         Err(error) => Err(in_index(error, disk.faults())),
@@ -365,12 +369,18 @@ fn lay_out(alloc: Global, records: &[InstanceRecord]) -> Result<Plan, FilesError
 }
 
 /// What was read of a site, by its instance file, its directory and what was found in its journals.
-fn with_found(log: InstanceLog, directory: Directory, found: FoundJournals) -> ReadEntries
+fn with_found(
+    log: InstanceLog,
+    directory: Directory,
+    found: FoundJournals,
+    lowest: u64,
+) -> ReadEntries
     requires { length found.signs.items ≤ 8 }
     ensures log { result.read.log ≡ log }
     ensures directory { result.read.directory ≡ directory }
     ensures signs { result.read.signs ≡ found.signs }
     ensures last_began { result.read.last_began ≡ found.last_began }
+    ensures lowest { result.read.lowest ≡ lowest }
     ensures entries { result.entries ≡ found.entries }
 {
     let FoundJournals {
@@ -384,19 +394,26 @@ fn with_found(log: InstanceLog, directory: Directory, found: FoundJournals) -> R
             directory,
             signs,
             last_began,
+            lowest,
         },
         entries,
     }
 }
 
-/// Syncs and reads the instance file and the journals of a site, however many generations were drawn. It writes nothing, and answers the
-/// index of the entries, and what the records say that are kept and where they stand.
+/// Syncs and reads the instance file and the journals of a site, however many generations were drawn. It writes nothing, and answers
+/// the index of the entries, and what the records say that are kept and where they stand. `lowest` is the lowest target for which the
+/// regions may be opened: what no target from there on needs may be left out.
 ///
 /// # Errors
 /// `NotAFile` exactly where the files hold no site's records, with the first file that is outside the format and the place of
 /// what can't stand there.
-pub fn read_records<D: Disk>(alloc: Global, disk: &mut D) -> Result<ReadEntries, FilesError>
-    ensures held { IfOk result (λ found. IfSome (D.disk disk.old).content (λ files. (u : Records) × (seq : Sequence) × AreFound files found.read.log.records (map (λ s. s.items) found.read.signs.items) found.entries u seq)) }
+pub fn read_records<D: Disk>(
+    alloc: Global,
+    disk: &mut D,
+    lowest: u64,
+) -> Result<ReadEntries, FilesError>
+    ensures lowest { IfOk result (λ found. found.read.lowest ≡ lowest) }
+    ensures held { IfOk result (λ found. IfSome (D.disk disk.old).content (λ files. (u : Records) × (seq : Sequence) × AreFound files found.read.log.records found.read.lowest (map (λ s. s.items) found.read.signs.items) found.entries u seq)) }
     ensures signs { IfOk result (λ found. length found.read.signs.items ≡ length (defs.regions found.read.log.records)) }
     ensures rows { IfOk result (λ found. (found.entries.regions ≡ length (defs.regions found.read.log.records)) × (n : ℕ) × (length found.entries.places.items ≡ found.entries.regions * n)) }
     ensures order { IfOk result (λ found. AreInOrder found.read.log.records) }
@@ -410,17 +427,23 @@ pub fn read_records<D: Disk>(alloc: Global, disk: &mut D) -> Result<ReadEntries,
 {
     let log = read_instance(alloc, disk)?;
     let plan = plan_of(alloc, log.records.as_slice())?;
-    let found = read_journals(alloc, disk, &log, plan.regions, plan.newest)?;
-    Ok(with_found(log, plan.directory, found))
+    let found = read_journals(alloc, disk, &log, plan.regions, plan.newest, lowest)?;
+    Ok(with_found(log, plan.directory, found, lowest))
 }
 
-/// Syncs and reads the instance file and the journals of a site that is to be opened, of which a generation is left. It writes
-/// nothing, and answers the index of the entries, and what the records say that are kept and where they stand.
+/// Syncs and reads the instance file and the journals of a site that is to be opened, of which a generation is left. It writes nothing,
+/// and answers the index of the entries, and what the records say that are kept and where they stand. `lowest` is the lowest target for
+/// which the regions may be opened: what no target from there on needs may be left out.
 ///
 /// # Errors
 /// `GenLimit` where no generation is left; `NotAFile` with the first file that is outside the format and the place of what
 /// can't stand there, or with the first journal of the next generation that has begun already.
-pub fn read_site<D: Disk>(alloc: Global, disk: &mut D) -> Result<ReadEntries, FilesError>
+pub fn read_site<D: Disk>(
+    alloc: Global,
+    disk: &mut D,
+    lowest: u64,
+) -> Result<ReadEntries, FilesError>
+    ensures lowest { IfOk result (λ found. found.read.lowest ≡ lowest) }
     ensures form { IfOk result (λ found. MayBeOpened found.read.log.records (last_of found.read.last_began.items)) }
     ensures directory { IfOk result (λ found. IsDirectory found.read.log.records (Some found.read.directory)) }
     ensures counted { IfOk result (λ found. length found.read.last_began.items ≡ length (defs.regions found.read.log.records)) }
@@ -428,7 +451,7 @@ pub fn read_site<D: Disk>(alloc: Global, disk: &mut D) -> Result<ReadEntries, Fi
     ensures low { IfOk result (λ found. generation found.read.log.records < 65534) }
     ensures read { IfOk result (λ found. IfSome (D.disk disk.old).content (λ files. (journal : ℕ → List Placed) × (seq : Sequence)
         × WasRead (D.disk disk.new) found.read.log.records (last_of found.read.last_began.items) journal files
-        × AreFound files found.read.log.records (map (λ s. s.items) found.read.signs.items) found.entries (record { instance = found.read.log.records; journal = journal }) seq
+        × AreFound files found.read.log.records found.read.lowest (map (λ s. s.items) found.read.signs.items) found.entries (record { instance = found.read.log.records; journal = journal }) seq
         × IsIndexOf journal (reigns found.read.log.records) found.entries seq)) }
     ensures signs { IfOk result (λ found. length found.read.signs.items ≡ length (defs.regions found.read.log.records)) }
     ensures rows { IfOk result (λ found. (found.entries.regions ≡ length (defs.regions found.read.log.records)) × (n : ℕ) × (length found.entries.places.items ≡ found.entries.regions * n)) }
@@ -446,9 +469,9 @@ pub fn read_site<D: Disk>(alloc: Global, disk: &mut D) -> Result<ReadEntries, Fi
 {
     let log = read_instance(alloc, disk)?;
     let plan = lay_out(alloc, log.records.as_slice())?;
-    let found = read_journals(alloc, disk, &log, plan.regions, plan.newest)?;
+    let found = read_journals(alloc, disk, &log, plan.regions, plan.newest, lowest)?;
     see_regions(alloc, disk, plan.regions, plan.newest + 1)?;
-    Ok(with_found(log, plan.directory, found))
+    Ok(with_found(log, plan.directory, found, lowest))
 }
 
 /// Syncs the journals of the generation behind the next one of a site with these records and this directory, and sees that they have no

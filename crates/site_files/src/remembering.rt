@@ -61,11 +61,11 @@ pub fn remember_all<D: Disk>(
     read: &ReadSite,
     entries: EntryIndex,
 ) -> Result<Remembered, FilesError>
-    ensures broken { IfOk result (λ made. IfSome (D.disk disk.old).content (λ files. (u : Records) (seq : Sequence) → AreFound files read.now.log.records (map (λ s. s.items) read.now.signs.items) entries u seq
+    ensures broken { IfOk result (λ made. IfSome (D.disk disk.old).content (λ files. (u : Records) (seq : Sequence) → AreFound files read.now.log.records read.now.lowest (map (λ s. s.items) read.now.signs.items) entries u seq
         → made.broken ≡ texts.broken_text (site_name u.instance) (length seq) (texts.broken u (length seq)))) }
     ensures entries { IfOk result (λ made. made.entries ≡ entries) }
     ensures few { IfOk result (λ made. entry_count entries < 2 ^ 40) }
-    ensures outside { (file offset : ℕ) → IsErrOf result (FilesError.NotAFile file offset) → IfSome (D.disk disk.old).content (λ files. (u : Records) (seq : Sequence) → AreFound files read.now.log.records (map (λ s. s.items) read.now.signs.items) entries u seq → ⊥) }
+    ensures outside { (file offset : ℕ) → IsErrOf result (FilesError.NotAFile file offset) → IfSome (D.disk disk.old).content (λ files. (u : Records) (seq : Sequence) → AreFound files read.now.log.records read.now.lowest (map (λ s. s.items) read.now.signs.items) entries u seq → ⊥) }
     ensures reads { Reads (D.disk disk.old) (D.disk disk.new) }
     ensures faults { MayFail (D.disk disk.old).faults (D.disk disk.new).faults (λ fault. IsErrOf result (FilesError.Failed fault)) }
     ensures causes { OnErr result (((fault : ℕ) × IsErrOf result (FilesError.Failed fault)) ⊎ ((file : ℕ) × (offset : ℕ) × IsErrOf result (FilesError.NotAFile file offset)) ⊎ IsErrOf result FilesError.NoMemory) }

@@ -96,11 +96,11 @@ module _ (u v : View) (f : FoundFiles) (was : WasFound u v f) (files : Files) (t
 
 -- open for all entries
 abbrev again : FoundFiles → StandingSite → FoundFiles
-again f k = record { read = record { log = k.log; directory = f.read.directory; signs = f.read.signs; last_began = k.last_began; few = f.read.few }; entries = k.entries; broken = k.broken }
+again f k = record { read = record { log = k.log; directory = f.read.directory; signs = f.read.signs; last_began = k.last_began; lowest = f.read.lowest; few = f.read.few }; entries = k.entries; broken = k.broken }
 
 -- no region needs forward recovery, by all that the signs say
 abbrev pub NoneNeeds : FoundFiles → ℕ → Type 0
-NoneNeeds f n = (journal : ℕ → List Placed) → AllSay (found_signs f) journal → NoneIsWithout (found_records f journal) n
+NoneNeeds f n = (journal : ℕ → List Placed) → AllSay f.read.log.records n (found_signs f) journal → NoneIsWithout (found_records f journal) n
 
 stood_in : (anew : Bool) (u w : View) (f : FoundFiles) (k : StandingSite) → HasFound (again f k) → IsOpenAs anew u w (again f k) (entry_count k.entries) k.globals
     → (anew ≡ false → NoneNeeds (again f k) (entry_count k.entries)) → (files : Files) → u.content ≡ Some files → Given w (again f k) files → (journal : ℕ → List Placed) × (seq : Sequence) × StandsIn anew w k journal seq files
@@ -119,7 +119,7 @@ stood_in anew u w f k has opens none files told (journal, seq, is) =
         indexed = is.indexed;
         stand = is.stand;
         broken_is = is.broken_is;
-        without = λ no. subst (NoneIsWithout (records_of k journal)) count (none no journal (signs_say files (length seq) (found_signs f) journal is.found.are_kept));
+        without = λ no. subst (NoneIsWithout (records_of k journal)) count (none no journal (signs_say files k.log.records f.read.lowest n (length seq) (found_signs f) journal (λ m low least. omega (arith, least, count)) is.found.are_kept));
         blocks = subst (λ (m : ℕ). StandOn anew files (records_of k journal) m k.globals) count blocks;
         nodes = λ sound. nodes sound ∙ ap state all;
       },
@@ -149,7 +149,7 @@ pub stood_of : (anew : Bool) (u w : View) (f : FoundFiles) (k : StandingSite) �
 stood_of anew u w f k has was opens none stays =
     subst (λ (x : FoundFiles). HasFound x → WasFound u w x → IsOpenAs anew u w x (entry_count x.entries) k.globals → (anew ≡ false → NoneNeeds x (entry_count x.entries))
     → ((n : ℕ) → HasLayout (x.read.log.records ++ next_cut x.read.log.records n ∷ []) k.layout) → Stood anew u w k)
-    (λ i. record { read = record { log = stays.log i; directory = f.read.directory; signs = f.read.signs; last_began = stays.last_began i; few = f.read.few }; entries = stays.entries i; broken = stays.broken i })
+    (λ i. record { read = record { log = stays.log i; directory = f.read.directory; signs = f.read.signs; last_began = stays.last_began i; lowest = f.read.lowest; few = f.read.few }; entries = stays.entries i; broken = stays.broken i })
     (stood_again anew u w f k) has was opens none stays.layout
 
 pub stood_ok : (anew : Bool) (u v w : View) (f : FoundFiles) (n : ℕ) (o : Result StandingSite SiteError) → IsLawful w → Reads v w → v.content ≡ u.content → HasFound f → WasFound u v f → n ≡ entry_count f.entries
@@ -179,12 +179,12 @@ none_there u v f P was same never = told_then u.content (Given v f) P was.told (
     absurd (at_files u.content files (IfFound f (λ _ _ _. ⊥)) told (told_at u.content v.content (IfFound f (λ _ _ _. ⊥)) same never) (found_records f x.0) x.1 x.2.found))
 
 -- the first region that needs forward recovery
-pub first_needing : (u v : View) (f : FoundFiles) → HasFound f → WasFound u v f → (region : ℕ) → ((journal : ℕ → List Placed) → AllSay (found_signs f) journal → (generation : ℕ) × IsFirstWithout (found_records f journal) (entry_count f.entries) region generation)
+pub first_needing : (u v : View) (f : FoundFiles) → HasFound f → WasFound u v f → (region : ℕ) → ((journal : ℕ → List Placed) → AllSay f.read.log.records (entry_count f.entries) (found_signs f) journal → (generation : ℕ) × IsFirstWithout (found_records f journal) (entry_count f.entries) region generation)
     → IfSome u.content (λ files. HaveFirstWithout files region)
 first_needing u v f has was region first =
     weaker_told u.content (Given v f) (λ files. HaveFirstWithout files region) was.told (λ files x.
-    let said = first x.0 (signs_say files (length x.1) (found_signs f) x.0 x.2.found.are_kept) in
-    let count = found_count v f x.0 x.1 files has x.2 in (
+    let count = found_count v f x.0 x.1 files has x.2 in
+    let said = first x.0 (signs_say files f.read.log.records f.read.lowest (entry_count f.entries) (length x.1) (found_signs f) x.0 (λ m low least. omega (arith, least, count)) x.2.found.are_kept) in (
       found_records f x.0,
       x.1,
       x.2.found.held,

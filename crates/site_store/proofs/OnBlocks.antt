@@ -1,5 +1,5 @@
 -- A site's regions stay on their blocks while its journals and its instance file gain records.
-use Rattle.std.proofs.Common.{◌≡◌, ◌⊎◌, inl, inr, ℕ, ◌<◌, Bool, true, false, List, [], ◌∷◌, ◌++◌, length, map, Option, Some, None, refl, sym, ◌∙◌, ap, subst, arith, append-nil, append_assoc}
+use Rattle.std.proofs.Common.{◌≡◌, ◌⊎◌, inl, inr, ℕ, ◌<◌, ◌≤◌, min, Bool, true, false, List, [], ◌∷◌, ◌++◌, length, map, Option, Some, None, refl, sym, ◌∙◌, ap, subst, arith, append-nil, append_assoc}
 use Rattle.std.specs.Prelude.{IsSome, IfSome}
 use Rattle.std.specs.List.{AllByRecursion}
 use Rattle.disk_defs.specs.Disk.{Files, View}
@@ -23,10 +23,12 @@ use Rattle.disk_defs.proofs.Told.{weaker_told, both_weak, told_at}
 use Rattle.global_defs.specs.Entry.{Sequence}
 use Rattle.entry_index.specs.declared.placed.PlacedSign.{PlacedSign}
 use Rattle.entry_index.specs.declared.index.EntryIndex.{EntryIndex}
-use Rattle.entry_index.specs.Found.{AreFound}
+use Rattle.entry_index.specs.Found.{AreFound, entry_count}
+use Rattle.entry_index.proofs.AmongLaws.{counted}
+use Rattle.entry_index.proofs.Thin.{found_for}
 use Rattle.site_defs.specs.OutsideBlocks.{gone_back}
 use Rattle.site_store.specs.declared.preparing.FoundFiles.{FoundFiles}
-use Rattle.site_store.specs.Standing.{IfFound, found_signs}
+use Rattle.site_store.specs.Standing.{HasFound, IfFound, found_signs}
 use Rattle.site_store.specs.Site.{IsOnBlocks, AreHeld, AreOnBlocks, AreOnFiles, StandOn}
 
 abbrev OnEpoch : List Placed → Chosen → List ℕ → Standing → Type 0
@@ -143,13 +145,22 @@ part_plain instance n g (Some x) = (((λ b. refl), refl), tt)
 
 -- regions as they were opened, by what was found
 abbrev pub AreGoneBack : List InstanceRecord → List (List PlacedSign) → EntryIndex → ℕ → Joined → Files → Type 0
-AreGoneBack rs signs entries n j files = (u : Records) (seq : Sequence) → AreFound files rs signs entries u seq
+AreGoneBack rs signs entries n j files = (u : Records) (seq : Sequence) → AreFound files rs n signs entries u seq
     → (r : ℕ) → r < length j.regions → NeedsForward rs n (u.journal r) ⊎ HoldsRegion (gone_back u n r) (files (database_file r)) (region_at j r)
 
 abbrev pub AllHeld : Joined → Files → Type 0
 AllHeld j files = (r : ℕ) → r < length j.regions → IsHeld (region_at j r) files
 
-module _ (o : Option Files) (f : FoundFiles) (n : ℕ) (j : Joined) (same : j.patterns ≡ patterns f.read.log.records) (count : length j.regions ≡ length (regions f.read.log.records))
+-- what was found serves each target from the lowest one, or all entries, on
+pub serves : (files : Files) (f : FoundFiles) (t : ℕ) → HasFound f → min f.read.lowest (entry_count f.entries) ≤ t → (u : Records) (seq : Sequence) → AreFound files f.read.log.records f.read.lowest (found_signs f) f.entries u seq
+    → AreFound files f.read.log.records t (found_signs f) f.entries u seq
+serves files f t has least u seq found =
+    let wide = has.each_place in
+    let regions_some = has.form.some_region in
+    let count : entry_count f.entries ≡ length seq = counted f.entries (length seq) (omega (arith, wide, regions_some)) found.indexed.rows in
+    found_for files f.read.log.records f.read.lowest t (found_signs f) f.entries u seq (λ m low inside. omega (arith, least, low, inside, count)) found
+
+module _ (o : Option Files) (f : FoundFiles) (n : ℕ) (has : HasFound f) (least : min f.read.lowest (entry_count f.entries) ≤ n) (j : Joined) (same : j.patterns ≡ patterns f.read.log.records) (count : length j.regions ≡ length (regions f.read.log.records))
     (file : (r : ℕ) → r < length j.regions → (region_at j r).file ≡ database_file r) where
   pub on_blocks : IfSome o (AreGoneBack f.read.log.records (found_signs f) f.entries n j) → IfSome o (AllHeld j) → IfSome o (IfFound f (λ u seq files. AreOnBlocks files u n j))
   on_blocks holds held = both_weak o (AreGoneBack f.read.log.records (found_signs f) f.entries n j) (AllHeld j) (IfFound f (λ u seq files. AreOnBlocks files u n j)) holds held (λ files h all u seq found.
@@ -163,10 +174,12 @@ module _ (o : Option Files) (f : FoundFiles) (n : ℕ) (j : Joined) (same : j.pa
             record {
               file = file r low;
               held = all r low;
-              holds = subst (λ (l : List InstanceRecord). NeedsForward l n (u.journal r) ⊎ HoldsRegion (gone_back u n r) (files (database_file r)) (region_at j r)) own (h u seq found r low);
+              holds = subst (λ (l : List InstanceRecord). NeedsForward l n (u.journal r) ⊎ HoldsRegion (gone_back u n r) (files (database_file r)) (region_at j r)) own (h u seq (serves files f n has least u seq found) r low);
             };
       })
 
+module _ (o : Option Files) (f : FoundFiles) (n : ℕ) (j : Joined) (same : j.patterns ≡ patterns f.read.log.records) (count : length j.regions ≡ length (regions f.read.log.records))
+    (file : (r : ℕ) → r < length j.regions → (region_at j r).file ≡ database_file r) where
   pub on_files : IfSome o (AllHeld j) → IfSome o (IfFound f (λ u seq files. AreOnFiles files u j))
   on_files held = weaker_told o (AllHeld j) (IfFound f (λ u seq files. AreOnFiles files u j)) held (λ files all u seq found.
       let own : f.read.log.records ≡ u.instance = sym found.instance_is in

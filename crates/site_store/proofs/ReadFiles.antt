@@ -23,11 +23,11 @@ use Rattle.site_store.proofs.TheFiles.{told_then, as_told, at_files}
 -- the files hold the records that were read, and stand for these entries
 abbrev pub IsRead : View → ReadSite → EntryIndex → Files → Type 0
 IsRead v read entries files = (journal : ℕ → List Placed) × (seq : Sequence) × WasRead v read.log.records (last_of read.last_began.items) journal files
-    × AreFound files read.log.records (map (λ s. s.items) read.signs.items) entries (record { instance = read.log.records; journal = journal }) seq × IsIndexOf journal (reigns read.log.records) entries seq
+    × AreFound files read.log.records read.lowest (map (λ s. s.items) read.signs.items) entries (record { instance = read.log.records; journal = journal }) seq × IsIndexOf journal (reigns read.log.records) entries seq
 
 -- what can't be found there
 abbrev pub NeverFound : ReadSite → EntryIndex → Files → Type 0
-NeverFound read entries files = (u : Records) (seq : Sequence) → AreFound files read.log.records (map (λ s. s.items) read.signs.items) entries u seq → ⊥
+NeverFound read entries files = (u : Records) (seq : Sequence) → AreFound files read.log.records read.lowest (map (λ s. s.items) read.signs.items) entries u seq → ⊥
 
 -- and so they can't fail to
 pub never_read : (o n : Option Files) (v : View) (read : ReadSite) (entries : EntryIndex) (P : Files → Type 0) → n ≡ o → IfSome o (IsRead v read entries) → IfSome n (NeverFound read entries) → IfSome o P
@@ -36,7 +36,7 @@ never_read o n v read entries P same is never = both_weak o (IsRead v read entri
 
 -- the text that was made of it
 abbrev pub IsMade : FoundFiles → Files → Type 0
-IsMade f files = (u : Records) (seq : Sequence) → AreFound files f.read.log.records (found_signs f) f.entries u seq → f.broken ≡ broken_text (site_name u.instance) (length seq) (broken u (length seq))
+IsMade f files = (u : Records) (seq : Sequence) → AreFound files f.read.log.records f.read.lowest (found_signs f) f.entries u seq → f.broken ≡ broken_text (site_name u.instance) (length seq) (broken u (length seq))
 
 pub found_of : (u v0 v1 v2 w : View) (f : FoundFiles) → v2.content ≡ u.content → IsLawful v1 → IsLawful v2 → IsLawful w → AtEachMoment v0 v1 (Image v0) → AtEachMoment v1 v2 (Image v1) → AtEachMoment v2 w (Image v2)
     → IfSome u.content (IsRead v0 f.read f.entries) → IfSome v2.content (IsMade f)

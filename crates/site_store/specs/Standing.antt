@@ -47,7 +47,7 @@ pub record HasFound (f : FoundFiles) : Type 0 where
 -- The files hold these records, whose signs were found, and are on the disk for good since; the places are those of the sequence for which they stand.
 pub record IsFoundIn (v : View) (f : FoundFiles) (journal : ℕ → List Placed) (seq : Sequence) (files : Files) : Type 0 where
   pub read : WasRead v f.read.log.records (last_of f.read.last_began.items) journal files
-  pub found : AreFound files f.read.log.records (found_signs f) f.entries (found_records f journal) seq
+  pub found : AreFound files f.read.log.records f.read.lowest (found_signs f) f.entries (found_records f journal) seq
   pub indexed : IsIndexOf journal (reigns f.read.log.records) f.entries seq
   pub stand : (r : ℕ) → r < length (regions f.read.log.records) → StandUpTo files r (generation f.read.log.records) (journal r)
   pub broken_is : f.broken ≡ broken_text (site_name f.read.log.records) (length seq) (broken (found_records f journal) (length seq))
@@ -68,7 +68,7 @@ pub record IsFoundAs (f : FoundFiles) (k : StandingSite) : Type 0 where
 
 -- what was found is so of these records, if the files hold them, and of the sequence for which they stand
 abbrev pub IfFound : FoundFiles → (Records → Sequence → Files → Type 0) → Files → Type 0
-IfFound f P files = (u : Records) (seq : Sequence) → AreFound files f.read.log.records (found_signs f) f.entries u seq → P u seq files
+IfFound f P files = (u : Records) (seq : Sequence) → AreFound files f.read.log.records f.read.lowest (found_signs f) f.entries u seq → P u seq files
 
 -- Its regions are open for so many entries of what was found: made anew, or on their blocks as they were at the epochs chosen for these. On a sound site all
 -- nodes are the state of these entries.

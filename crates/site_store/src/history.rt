@@ -48,7 +48,7 @@ pub fn history_of<D: Disk>(alloc: Global, disk: &mut D) -> Result<History, SiteE
     ensures faults { MayFail (D.disk disk.old).faults (D.disk disk.new).faults (λ fault. IsErrOf result (SiteError.Failed fault)) }
     ensures causes { OnErr result (((fault : ℕ) × IsErrOf result (SiteError.Failed fault)) ⊎ ((file : ℕ) × (offset : ℕ) × IsErrOf result (SiteError.NotAFile file offset)) ⊎ IsErrOf result SiteError.NoMemory) }
 {
-    let found = read_records(alloc, disk)?;
+    let found = read_records(alloc, disk, u64::MAX)?;
     let ReadEntries { read, entries } = found;
     let length = entries.len();
     let reigns = reigns_by(alloc, read.log.history.as_slice(), length)?;

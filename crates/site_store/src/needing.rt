@@ -18,8 +18,8 @@ pub fn first_needing(
     target: u64,
 ) -> Result<Option<WithoutImages>, NoMemory>
     requires has { HasFound found.now }
-    ensures none { IfOk result (λ first. first ≡ None → (journal : ℕ → List Placed) → AllSay (found_signs found.now) journal → NoneIsWithout (found_records found.now journal) target) }
-    ensures first { IfOk result (λ first. IfSome first (λ x. (journal : ℕ → List Placed) → AllSay (found_signs found.now) journal → IsFirstWithout (found_records found.now journal) target x.region x.generation)) }
+    ensures none { IfOk result (λ first. first ≡ None → (journal : ℕ → List Placed) → AllSay found.now.read.log.records target (found_signs found.now) journal → NoneIsWithout (found_records found.now journal) target) }
+    ensures first { IfOk result (λ first. IfSome first (λ x. (journal : ℕ → List Placed) → AllSay found.now.read.log.records target (found_signs found.now) journal → IsFirstWithout (found_records found.now journal) target x.region x.generation)) }
 {
     first_without_images(alloc, &found.read.log.records, &found.read.signs, target)
 }

@@ -1,5 +1,5 @@
 //! A site as it stands on a disk, before anything is written.
-ghost use Rattle.std.specs.Prelude.{◌≡◌, ◌⊎◌, ◌≤◌, ◌<◌, ◌++◌, ◌∷◌, [], ℕ, List, true, map, IfOk, IfSome, OnOk, OnErr, IsErrOf};
+ghost use Rattle.std.specs.Prelude.{◌≡◌, ◌⊎◌, ◌≤◌, ◌<◌, ◌++◌, ◌∷◌, [], ℕ, List, true, map, min, IfOk, IfSome, OnOk, OnErr, IsErrOf};
 ghost use Rattle.disk_defs.specs.Disk.{Image, Reads, AtEachMoment, MayFail};
 ghost use Rattle.journal_defs.specs.Instance as defs;
 ghost use Rattle.journal_defs.specs.Instance.{generation};
@@ -34,6 +34,9 @@ use site_files::{
     ReadEntries, ReadSite, Remembered, created_name, generation_in, read_site, remember_all,
 };
 use std::alloc::Global;
+
+/// A target that stands for all entries, however many these are.
+const ALL_ENTRIES: u64 = u64::MAX;
 
 /// What the files of a site hold: its records, and the entries for which they stand.
 #[derive(Drop)]
@@ -81,14 +84,20 @@ fn next_layout(
     })
 }
 
-/// Syncs all files of a site, and reads its records and entries. It writes nothing.
+/// Syncs all files of a site, and reads its records and entries, for targets from `lowest` on, or for all entries where there are fewer. It
+/// writes nothing.
 ///
 /// # Errors
 /// `GenLimit` exactly where 65,534 generations were drawn. `NotAFile` with the first file that is outside the formats and the place of
 /// what can't stand there, or with file 0 and offset 0 where no site stands there. `Failed` only where the disk's count rose.
 /// `NoMemory`.
-pub fn find_files<D: Disk>(alloc: Global, disk: &mut D) -> Result<FoundFiles, SiteError>
+pub fn find_files<D: Disk>(
+    alloc: Global,
+    disk: &mut D,
+    lowest: u64,
+) -> Result<FoundFiles, SiteError>
     ensures has { IfOk result HasFound }
+    ensures lowest { IfOk result (λ found. found.read.lowest ≡ lowest) }
     ensures found { IfOk result (WasFound (D.disk disk.old) (D.disk disk.new)) }
     ensures limit { IsErrOf result SiteError.GenLimit → IfSome (D.disk disk.old).content (λ files. (rs : List defs.InstanceRecord) → IsInstance (files INSTANCE) rs → 65534 ≤ generation rs) }
     ensures limit_told { IsErrOf result SiteError.GenLimit → IfSome (D.disk disk.old).content (λ files. (rs : List defs.InstanceRecord) × IsInstance (files INSTANCE) rs × (65534 ≤ generation rs)) }
@@ -100,7 +109,7 @@ pub fn find_files<D: Disk>(alloc: Global, disk: &mut D) -> Result<FoundFiles, Si
     ensures faults { MayFail (D.disk disk.old).faults (D.disk disk.new).faults (λ fault. IsErrOf result (SiteError.Failed fault)) }
     ensures causes { OnErr result (IsErrOf result SiteError.GenLimit ⊎ ((fault : ℕ) × IsErrOf result (SiteError.Failed fault)) ⊎ ((file : ℕ) × (offset : ℕ) × IsErrOf result (SiteError.NotAFile file offset)) ⊎ IsErrOf result SiteError.NoMemory) }
 {
-    let found = read_site(alloc, disk)?;
+    let found = read_site(alloc, disk, lowest)?;
     let ReadEntries { read, entries } = found;
     sync_texts(disk, generation_in(read.log.records.as_slice()))?;
     sync_databases(disk, u32::from(read.directory.regions()))?;
@@ -154,6 +163,7 @@ pub fn stand<D: Disk>(
     target: u64,
 ) -> Result<StandingSite, SiteError>
     requires target { target ≤ entry_count found.entries }
+    requires lowest { min found.read.lowest (entry_count found.entries) ≤ target }
     requires has { HasFound found }
     ensures found_as { IfOk result (IsFoundAs found) }
     ensures opened { IfOk result (λ k. IsOpenFor (D.disk disk.old) (D.disk disk.new) found target k.globals) }
@@ -207,8 +217,8 @@ fn stand_anew<D: Disk>(
 /// Sees that no region needs forward recovery for so many entries.
 fn check_images(alloc: Global, found: &FoundFiles, target: u64) -> Result<(), SiteError>
     requires has { HasFound found.now }
-    ensures none { OnOk result ((journal : ℕ → List Placed) → AllSay (found_signs found.now) journal → NoneIsWithout (found_records found.now journal) target) }
-    ensures first { (region : ℕ) → IsErrOf result (SiteError.NeedForward region) → (journal : ℕ → List Placed) → AllSay (found_signs found.now) journal → (generation : ℕ) × IsFirstWithout (found_records found.now journal) target region generation }
+    ensures none { OnOk result ((journal : ℕ → List Placed) → AllSay found.now.read.log.records target (found_signs found.now) journal → NoneIsWithout (found_records found.now journal) target) }
+    ensures first { (region : ℕ) → IsErrOf result (SiteError.NeedForward region) → (journal : ℕ → List Placed) → AllSay found.now.read.log.records target (found_signs found.now) journal → (generation : ℕ) × IsFirstWithout (found_records found.now journal) target region generation }
     ensures causes { OnErr result (((region : ℕ) × IsErrOf result (SiteError.NeedForward region)) ⊎ IsErrOf result SiteError.NoMemory) }
 {
     match first_needing(alloc, found, target)? {
@@ -242,7 +252,7 @@ pub(crate) fn read_standing<D: Disk>(
     ensures faults { MayFail (D.disk disk.old).faults (D.disk disk.new).faults (λ fault. IsErrOf result (SiteError.Failed fault)) }
     ensures causes { OnErr result (IsErrOf result SiteError.GenLimit ⊎ ((region : ℕ) × IsErrOf result (SiteError.NeedForward region)) ⊎ ((fault : ℕ) × IsErrOf result (SiteError.Failed fault)) ⊎ ((file : ℕ) × (offset : ℕ) × IsErrOf result (SiteError.NotAFile file offset)) ⊎ IsErrOf result SiteError.NoMemory) }
 {
-    let found = find_files(alloc, disk)?;
+    let found = find_files(alloc, disk, ALL_ENTRIES)?;
     if anew {
         return stand_anew(alloc, disk, found);
     }

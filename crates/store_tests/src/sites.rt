@@ -10,6 +10,7 @@ ghost use Rattle.site_store.specs.Owning.{IsGoing};
 use gvn_key::terms::Update;
 use gvn_key::{Bytes, Key};
 use gvn_model::{Origin, Transaction, Updates};
+use mupip_rollback::rollback;
 use repl_disk::{Disk, MemDisk};
 use site_store::{
     RegionSpec, Site, SiteError, create, find_files, history_of, inspect, load, read_file, stand,
@@ -223,7 +224,7 @@ fn closed_and_opened_again(rt: HostRuntime) {
 
 /// How many nodes a site has once it is opened for so many entries.
 fn nodes_for<D: Disk>(rt: &impl Abort, alloc: Global, disk: &mut D, target: u64) -> u32 {
-    let found = find_files(alloc, disk).expect(rt, "it succeeds");
+    let found = find_files(alloc, disk, target).expect(rt, "it succeeds");
     assert!(rt; target <= found.entries.len());
     let standing = stand(alloc, disk, found, target).expect(rt, "it succeeds");
     standing.globals.nodes()
@@ -236,7 +237,7 @@ fn opened_for_a_target(rt: HostRuntime) {
     let site = put_two(&rt, alloc, MemDisk::new(alloc).expect(&rt, "it succeeds"));
     let (mut disk, closed) = site.close();
     closed.expect(&rt, "it succeeds");
-    let found = find_files(alloc, &mut disk).expect(&rt, "it succeeds");
+    let found = find_files(alloc, &mut disk, 2).expect(&rt, "it succeeds");
     assert_eq!(rt; found.entries.len(), 2);
     assert_eq!(rt; found.read.last_began.as_slice(), [1].as_slice());
     assert!(rt; found.broken.as_slice().is_empty());
@@ -340,8 +341,8 @@ fn journal_length<D: Disk>(rt: &impl Abort, site: Site<D>) -> u64 {
     disk.len(24).expect(rt, "it succeeds")
 }
 
-/// Behind an epoch the first entry that changes a block has its image ahead of it, and the second one has none: 4,096 bytes behind a kind and
-/// a number of four bytes, a length and a gate.
+/// Behind an epoch the first entry that changes a block has its image ahead of it, and the second one has none: 4,096 bytes behind a
+/// kind and a number of four bytes, a length and a gate.
 #[test]
 fn an_image_ahead_of_the_first_change(rt: HostRuntime) {
     let alloc = rt.alloc();
@@ -357,4 +358,58 @@ fn an_image_ahead_of_the_first_change(rt: HostRuntime) {
     let first = one.wrapping_sub(none);
     let second = two.wrapping_sub(one);
     assert_eq!(rt; first, second.wrapping_add(4106));
+}
+
+/// One entry more, with an epoch behind it.
+fn put_and_mark<D: Disk>(rt: &impl Abort, alloc: Global, site: &mut Site<D>)
+    requires ready { IsGoing D.disk site.old }
+    requires reign { HasReign site.old.inner }
+    ensures ready { IsGoing D.disk site.new }
+    ensures reign { HasReign site.new.inner }
+{
+    put(rt, alloc, site);
+    site.epoch().expect(rt, "it succeeds");
+}
+
+/// How many signs are kept of the journals of a region for targets from one on.
+fn signs_for<D: Disk>(rt: &impl Abort, alloc: Global, disk: &mut D, lowest: u64) -> usize {
+    let found = find_files(alloc, disk, lowest).expect(rt, "it succeeds");
+    match found.read.signs.first() {
+        Some(signs) => signs.len(),
+        None => 0,
+    }
+}
+
+/// Where a site is to be opened for all entries the signs before its last epoch go. For the target 0 all are kept: a PINI, and for each
+/// of five entries an image or none, the entry and its epoch.
+#[test]
+fn signs_before_an_epoch_go(rt: HostRuntime) {
+    let alloc = rt.alloc();
+    let mut site = put_and_keep(&rt, alloc, MemDisk::new(alloc).expect(&rt, "it succeeds"));
+    put_and_mark(&rt, alloc, &mut site);
+    put_and_mark(&rt, alloc, &mut site);
+    put_and_mark(&rt, alloc, &mut site);
+    put_and_mark(&rt, alloc, &mut site);
+    let (mut disk, closed) = site.close();
+    closed.expect(&rt, "it succeeds");
+    assert!(rt; signs_for(&rt, alloc, &mut disk, u64::MAX) <= 5);
+    assert!(rt; signs_for(&rt, alloc, &mut disk, 0) >= 11);
+    assert_eq!(rt; nodes_for(&rt, alloc, &mut disk, 5), 1);
+    assert_eq!(rt; nodes_for(&rt, alloc, &mut disk, 3), 1);
+}
+
+/// Behind a rollback the signs of the entries that it dropped go as well, though their numbers are past its epoch's. What stays is the PINI
+/// of each generation and the last epoch, and as many again at most.
+#[test]
+fn signs_of_dropped_entries_go(rt: HostRuntime) {
+    let alloc = rt.alloc();
+    let mut site = put_and_keep(&rt, alloc, MemDisk::new(alloc).expect(&rt, "it succeeds"));
+    put_and_mark(&rt, alloc, &mut site);
+    put_and_mark(&rt, alloc, &mut site);
+    put_and_mark(&rt, alloc, &mut site);
+    let (mut disk, closed) = site.close();
+    closed.expect(&rt, "it succeeds");
+    rollback(alloc, &mut disk, 1).expect(&rt, "it succeeds");
+    assert!(rt; signs_for(&rt, alloc, &mut disk, u64::MAX) <= 6);
+    assert_eq!(rt; nodes_for(&rt, alloc, &mut disk, 1), 1);
 }

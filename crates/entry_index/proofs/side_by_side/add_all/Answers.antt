@@ -1,7 +1,7 @@
 use Rattle.std.proofs.Common.{◌≡◌, ◌+◌, ◌*◌, ◌∙◌, ℕ, Bool, true, false, IsTrue, length, IfSome, if◌then◌else◌, refl, sym, ap, subst, arith}
 use Rattle.disk_defs.proofs.Frames.{reads_more}
 use Rattle.disk_defs.proofs.Told.{told_at}
-use Rattle.entry_index.specs.Cursors.{AreReady, AllReadOnBy}
+use Rattle.entry_index.specs.Cursors.{AreReady, AllReadOnFor}
 use Rattle.entry_index.specs.Table.{AddsRow}
 use Rattle.entry_index.proofs.Adding.{NextBy, told_more, told_end}
 use Rattle.entry_index.proofs.Rows.{rows_more}
@@ -44,9 +44,9 @@ loop-done-preserved g c =
       regions = c.add_next.ensures.regions ∙ inv.regions;
       rows = places ∙ ap (λ (k : ℕ). k + l.made.regions) inv.rows ∙ rows_more l.made.regions n ∙ ap (λ (k : ℕ). k * (n + 1)) (sym c.add_next.ensures.regions);
       ready = λ k start. settle.ready x.content k (ready_still w.content x.content k mid c.add_next.ensures.reads.content (on.ready yes k (inv.ready k start)));
-      added = told_more a.cuts.now a.starts.now a.cursors.now.items l.cursors.items mid n l.made made row w.content last ready many c.add_next.ensures.regions row_is u.content new
+      added = told_more a.cuts.now a.starts.now a.lowest a.cursors.now.items l.cursors.items mid n l.made made row w.content last ready many c.add_next.ensures.regions row_is u.content new
           (subst (λ (b : Bool). AddsRow row l.made.regions b old made.places.items) more add.row) (λ files. settle.settled files n refl) inv.added
-          (told_at u.content v.content (AllReadOnBy a.cuts.now n l.cursors.items mid) inv.reads.content (on.read yes))
+          (told_at u.content v.content (AllReadOnFor a.cuts.now a.lowest n l.cursors.items mid) inv.reads.content (on.read yes))
           (told_at u.content w.content (NextBy row l.made.regions (n + 1) a.starts.now true old made.places.items) content
           (subst (λ (b : Bool). IfSome w.content (NextBy row l.made.regions (n + 1) a.starts.now b old made.places.items)) more add.added));
       reads = reads_more u w x (lawful a.disk.now) (reads_more u v w (lawful a.disk.now) inv.reads on.reads) c.add_next.ensures.reads;
@@ -76,8 +76,8 @@ returns-in-Ok-false-clause-added g c =
     let ready : AreReady w.content last mid = on.ready yes last (inv.ready last c.requires.ready.1) in
     let many : length mid ≡ l.made.regions = on.many yes ∙ inv.many ∙ c.requires.many ∙ sym inv.regions in
     let content : w.content ≡ u.content = on.reads.content ∙ inv.reads.content in
-    told_end a.cuts.now a.starts.now a.cursors.now.items l.cursors.items mid n l.made made row w.content last ready many c.add_next.ensures.regions row_is u.content inv.added
-    (told_at u.content v.content (AllReadOnBy a.cuts.now n l.cursors.items mid) inv.reads.content (on.read yes))
+    told_end a.cuts.now a.starts.now a.lowest a.cursors.now.items l.cursors.items mid n l.made made row w.content last ready many c.add_next.ensures.regions row_is u.content inv.added
+    (told_at u.content v.content (AllReadOnFor a.cuts.now a.lowest n l.cursors.items mid) inv.reads.content (on.read yes))
     (told_at u.content w.content (NextBy row l.made.regions (n + 1) a.starts.now false old made.places.items) content
     (subst (λ (b : Bool). IfSome w.content (NextBy row l.made.regions (n + 1) a.starts.now b old made.places.items)) more add.added))
 

@@ -11,7 +11,7 @@ invariant-loop-done g l =
       regions : l.made.regions ≡ l.fn.made.regions;
       rows : length l.made.places.items ≡ l.made.regions * l.done;
       ready : (last : ℕ) → AreReady (view l.fn.disk).content last l.fn.cursors.items → AreReady (view l.disk).content last l.cursors.items;
-      added : IfSome (view l.fn.disk).content (FromStart l.cuts l.starts l.fn.cursors.items (λ files instance. HaveAdded files instance l.done l.cursors.items l.made));
+      added : IfSome (view l.fn.disk).content (FromStart l.cuts l.starts l.lowest l.fn.cursors.items (λ files instance. HaveAdded files instance l.lowest l.done l.cursors.items l.made));
       reads : Reads (view l.fn.disk) (view l.disk);
       faults : (view l.fn.disk).faults ≤ (view l.disk).faults;
     }

@@ -2,6 +2,7 @@ use Rattle.std.proofs.Common.{rules, ◌≡◌, ◌+◌, ◌∙◌, ◌++◌, �
 use Rattle.disk_defs.proofs.Frames.{reads_more}
 use Rattle.disk_defs.proofs.Told.{told_at, both_weak}
 use Rattle.jnl_file.proofs.Newer.{all_told}
+use Rattle.journal_defs.specs.Instance.{InstanceRecord}
 use Rattle.entry_index.specs.Cursors.{IsReady, IsOnWay, AreReady, AreOnWay, AreTold}
 use Rattle.entry_index.specs.declared.cursor.Cursor.{Cursor}
 use Rattle.entry_index.proofs.SideBySide.{none_begun, ready_pushed, begun_pushed, told_pushed}
@@ -15,7 +16,8 @@ loop-region-init g c =
     record {
       many = ap length none;
       ready = subst (AreReady v.content c.args.last) (sym none) (λ r d low. absurd (omega (arith, low)));
-      begun = all_told v.content (λ files. AreOnWay files 0 c.new-cursors.result.items (λ r. [])) (λ files. subst (λ (l : List Cursor). AreOnWay files 0 l (λ r. [])) (sym none) (none_begun files));
+      begun = all_told v.content (λ files. (instance : List InstanceRecord) (lowest : ℕ) → AreOnWay files instance lowest 0 c.new-cursors.result.items (λ r. []))
+          (λ files instance lowest. subst (λ (l : List Cursor). AreOnWay files instance lowest 0 l (λ r. [])) (sym none) (none_begun files instance lowest));
       told = λ files instance. subst (λ (l : List Cursor). AreTold files instance 0 l (λ r. [])) (sym none) (λ r d low. absurd (omega (arith, low)));
       reads = search rules;
       faults = omega arith;
@@ -38,8 +40,10 @@ loop-region-preserved g c =
     record {
       many = ap length more ∙ length-append cs (x ∷ []) ∙ ap (λ (k : ℕ). k + 1) inv.many;
       ready = ready_pushed cs new x more v.content w.content a.last c.of.ensures.reads.content inv.ready here;
-      begun = both_weak u.content (λ files. AreOnWay files 0 cs (λ r. [])) (λ files. IsOnWay files 0 x []) (λ files. AreOnWay files 0 new (λ r. [])) inv.begun
-          (told_at u.content v.content (λ files. IsOnWay files 0 x []) inv.reads.content c.in_ok-cursor.ensures.begun) (λ files way at. begun_pushed cs new x more files way at);
+      begun = both_weak u.content (λ files. (instance : List InstanceRecord) (lowest : ℕ) → AreOnWay files instance lowest 0 cs (λ r. [])) (λ files. (instance : List InstanceRecord) (lowest : ℕ) → IsOnWay files instance lowest 0 x [])
+          (λ files. (instance : List InstanceRecord) (lowest : ℕ) → AreOnWay files instance lowest 0 new (λ r. [])) inv.begun
+          (told_at u.content v.content (λ files. (instance : List InstanceRecord) (lowest : ℕ) → IsOnWay files instance lowest 0 x []) inv.reads.content c.in_ok-cursor.ensures.begun)
+          (λ files way at instance lowest. begun_pushed cs new x more files instance lowest (way instance lowest) (at instance lowest));
       told = λ files instance. told_pushed cs new x more files instance (inv.told files instance) (c.in_ok-cursor.ensures.told files instance);
       reads = reads_more u v w (g.met.D.Disk.lawful a.disk.now) inv.reads c.of.ensures.reads;
       faults = omega (arith, inv.faults, c.of.ensures.faults.later);

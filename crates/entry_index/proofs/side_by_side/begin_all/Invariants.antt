@@ -1,4 +1,4 @@
-use Rattle.std.proofs.Common.{◌≡◌, ◌≤◌, [], length, List, IfSome}
+use Rattle.std.proofs.Common.{◌≡◌, ◌≤◌, [], length, ℕ, List, IfSome}
 use Rattle.disk_defs.specs.Disk.{Files, Reads}
 use Rattle.journal_defs.specs.Instance.{InstanceRecord}
 use Rattle.entry_index.specs.Cursors.{AreReady, AreOnWay, AreTold}
@@ -10,7 +10,7 @@ invariant-loop-region g l =
     record {
       many : length l.cursors.items ≡ l.region;
       ready : AreReady (view l.disk).content l.last l.cursors.items;
-      begun : IfSome (view l.fn.disk).content (λ files. AreOnWay files 0 l.cursors.items (λ r. []));
+      begun : IfSome (view l.fn.disk).content (λ files. (instance : List InstanceRecord) (lowest : ℕ) → AreOnWay files instance lowest 0 l.cursors.items (λ r. []));
       told : (files : Files) (instance : List InstanceRecord) → AreTold files instance 0 l.cursors.items (λ r. []);
       reads : Reads (view l.fn.disk) (view l.disk);
       faults : (view l.fn.disk).faults ≤ (view l.disk).faults;

@@ -2,6 +2,7 @@ use Rattle.std.proofs.Common.{◌≡◌, ◌≤◌, ◌+◌, ◌∙◌, ℕ, IsT
 use Rattle.std.proofs.lemmas.List.{length-map}
 use Rattle.disk_defs.proofs.Told.{told_at}
 use Rattle.gvn_model.specs.Reigns.{reign_value}
+use Rattle.journal_defs.specs.Instance.{InstanceRecord}
 use Rattle.journal_defs.specs.Sequence.{Placed}
 use Rattle.journal_defs.specs.Surviving.{reigns}
 use Rattle.mupip_recover.specs.Stamps.{AreStarts}
@@ -79,19 +80,19 @@ returns-clause-found g c =
     let content_s : s.content ≡ u.content = c.sync_all.ensures.content in
     let content_b : b.content ≡ u.content = begin.reads.content ∙ content_s in
     let content_v : v.content ≡ u.content = c.add_all.ensures.reads.content ∙ content_b in
-    let told = at_some c.in_ok-count.field-0 n (λ k. IfSome b.content (FromStart cuts starts first (λ files instance. AreAdded files instance k mid made))) c.in-Some.is add.added in
+    let told = at_some c.in_ok-count.field-0 n (λ k. IfSome b.content (FromStart cuts starts a.lowest first (λ files instance. AreAdded files instance a.lowest k mid made))) c.in-Some.is add.added in
     let are_starts : AreStarts (reigns instance) starts = starts_are instance c.args.history.now (map reign_value c.as_slice.result.now) starts c.in_ok-starts.starts.items c.requires.history c.as_slice.ensures c.deref.ensures.value c.in_ok-starts.ensures in
     let mid_many : length mid ≡ length first = at_some c.in_ok-count.field-0 n (λ _. length mid ≡ length first) c.in-Some.is add.many in
     let many : length cs ≡ a.regions = out.many yes ∙ mid_many ∙ begin.many in
     let mid_ready : AreReady v.content a.last mid =
     at_some c.in_ok-count.field-0 n (λ _. (k : ℕ) → AreReady b.content k first → AreReady v.content k mid) c.in-Some.is add.ready a.last begin.ready in
     let ready : AreReady w.content a.last cs = out.ready yes a.last mid_ready in
-    subst (λ (l : List (List PlacedSign)). IfSome u.content (λ files. (journal : ℕ → List Placed) × HaveFound files instance a.regions a.last l c.in_ok-found_by.field-0.last_began.items c.in_ok-found_by.field-0.entries journal)) (sym found.signs)
-    (subst (λ (l : List ℕ). IfSome u.content (λ files. (journal : ℕ → List Placed) × HaveFound files instance a.regions a.last (map (λ c. c.kept.signs.items) cs) l c.in_ok-found_by.field-0.entries journal)) (sym found.began)
-    (subst (λ (x : EntryIndex). IfSome u.content (λ files. (journal : ℕ → List Placed) × HaveFound files instance a.regions a.last (map (λ c. c.kept.signs.items) cs) (map (λ c. c.reader.began) cs) x journal)) (sym found.entries)
-    (told_found u.content cuts starts first mid cs made instance a.regions n a.last w.content c.in_ok-cuts.ensures are_starts many ready (out.done yes) (λ files. begin.told files instance)
-    (told_at u.content s.content (λ files. AreOnWay files 0 first (λ r. [])) content_s begin.begun)
-    (told_at u.content b.content (FromStart cuts starts first (λ files instance. AreAdded files instance n mid made)) content_b told)
+    subst (λ (l : List (List PlacedSign)). IfSome u.content (λ files. (journal : ℕ → List Placed) × HaveFound files instance a.lowest a.regions a.last l c.in_ok-found_by.field-0.last_began.items c.in_ok-found_by.field-0.entries journal)) (sym found.signs)
+    (subst (λ (l : List ℕ). IfSome u.content (λ files. (journal : ℕ → List Placed) × HaveFound files instance a.lowest a.regions a.last (map (λ c. c.kept.signs.items) cs) l c.in_ok-found_by.field-0.entries journal)) (sym found.began)
+    (subst (λ (x : EntryIndex). IfSome u.content (λ files. (journal : ℕ → List Placed) × HaveFound files instance a.lowest a.regions a.last (map (λ c. c.kept.signs.items) cs) (map (λ c. c.reader.began) cs) x journal)) (sym found.entries)
+    (told_found u.content cuts starts a.lowest first mid cs made instance a.regions n a.last w.content c.in_ok-cuts.ensures are_starts many ready (out.done yes) (λ files. begin.told files instance)
+    (told_at u.content s.content (λ files. (i : List InstanceRecord) (lowest : ℕ) → AreOnWay files i lowest 0 first (λ r. [])) content_s begin.begun)
+    (told_at u.content b.content (FromStart cuts starts a.lowest first (λ files instance. AreAdded files instance a.lowest n mid made)) content_b told)
     (told_at u.content v.content (AllReadOutBy cuts (n + 1) mid cs) content_v (out.read yes)))))
 
 pub returns-clause-began : goal.returns-clause-began

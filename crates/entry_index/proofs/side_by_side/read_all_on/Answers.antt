@@ -3,10 +3,10 @@ use Rattle.std.proofs.lemmas.List.{length-set}
 use Rattle.disk_defs.proofs.Frames.{reads_more}
 use Rattle.disk_defs.proofs.Told.{told_at, both_weak}
 use Rattle.jnl_file.proofs.Newer.{all_told}
-use Rattle.entry_index.specs.Cursors.{IsOnWay, ReadsOn, ReadsOnBy, AllReadOnBy}
+use Rattle.entry_index.specs.Cursors.{IsOnWay, IsTold, ReadsOn, ReadsOnFor, AllReadOnFor}
 use Rattle.entry_index.specs.declared.cursor.Cursor.{Cursor}
 use Rattle.entry_index.proofs.Cursors.{ready_on}
-use Rattle.entry_index.proofs.SideBySide.{ready_at, ready_own, ready_set, on_none, on_then, on_one}
+use Rattle.entry_index.proofs.SideBySide.{ready_at, ready_own, ready_set, on_none, on_both, on_one}
 use Rattle.entry_index.proofs.side_by_side.read_all_on.Goals as goal
 
 pub read_on-requires-clause-ready : goal.read_on-requires-clause-ready
@@ -25,7 +25,7 @@ loop-place-init g c =
     record {
       many = refl;
       ready = λ last ready. ready;
-      read = all_told o (AllReadOnBy c.args.cuts.now c.args.low cs cs) (λ files instance cuts n low most journal way. on_none files instance n c.args.low cs journal way);
+      read = all_told o (AllReadOnFor c.args.cuts.now c.args.lowest c.args.settled cs cs) (λ files instance cuts journal way told. on_none files instance c.args.lowest c.args.settled c.args.settled cs journal way);
       reads = search rules;
       faults = omega arith;
     }
@@ -54,11 +54,15 @@ loop-place-preserved g c =
           let ready = inv.ready last start in
           let here = ready_at v.content last i cs x inside is ready in
           ready_set v.content w.content last cs i y c.read_on.ensures.reads.content ready (ready_on w.content v.content i last x.reader y.reader here (call.ready more));
-      read = both_weak u.content (AllReadOnBy a.cuts.now a.low old cs) (ReadsOnBy a.cuts.now a.low x y) (AllReadOnBy a.cuts.now a.low old (set cs i y)) inv.read
-          (told_at u.content v.content (ReadsOnBy a.cuts.now a.low x y) inv.reads.content (call.read more))
-          (λ files so_far step instance cuts n low most journal way.
-          on_then files instance n a.low old cs (set cs i y) journal (so_far instance cuts n low most journal way)
-          (λ now at. on_one files n cs now at i y inside instance a.low x (subst (λ (z : Cursor). ReadsOn files instance n a.low z y (now i)) is (step instance cuts n low most (now i) (subst (λ (z : Cursor). IsOnWay files n z (now i)) (sym is) (at.each i x inside))))));
+      read = both_weak u.content (AllReadOnFor a.cuts.now a.lowest a.settled old cs) (ReadsOnFor a.cuts.now a.lowest a.settled x y) (AllReadOnFor a.cuts.now a.lowest a.settled old (set cs i y)) inv.read
+          (told_at u.content v.content (ReadsOnFor a.cuts.now a.lowest a.settled x y) inv.reads.content (call.read more))
+          (λ files so_far step instance cuts journal way told.
+          let first = so_far instance cuts journal way told in
+          on_both files instance a.lowest a.settled a.settled old cs (set cs i y) journal first
+          (on_one files instance a.lowest a.settled cs first.now first.on_way i y inside a.settled x
+          (subst (λ (z : Cursor). ReadsOn files instance a.lowest a.settled a.settled z y (first.now i)) is
+          (step instance cuts (first.now i) (subst (λ (z : Cursor). IsOnWay files instance a.lowest a.settled z (first.now i)) (sym is) (first.on_way.each i x inside))
+          (subst (λ (z : Cursor). IsTold files instance a.settled z (first.now i)) (sym is) (first.told told i x inside))))));
       reads = reads_more u v w (g.met.D.Disk.lawful a.disk.now) inv.reads call.reads;
       faults = omega (arith, inv.faults, c.read_on.ensures.faults.later);
     }

@@ -25,7 +25,7 @@ loop-place-init g c =
     record {
       many = refl;
       ready = λ last ready. ready;
-      read = all_told o (AllReadOutBy c.args.cuts.now c.args.low cs cs) (λ files instance cuts n low most journal way. out_none files instance n c.args.low cs journal way);
+      read = all_told o (AllReadOutBy c.args.cuts.now c.args.low cs cs) (λ files instance cuts lowest n low most journal way. out_none files instance lowest n c.args.low cs journal way);
       done = λ r d low. absurd (omega (arith, low));
       reads = search rules;
       faults = omega arith;
@@ -57,9 +57,9 @@ loop-place-preserved g c =
           ready_set v.content w.content last cs i y c.read_out.ensures.reads.content ready (ready_on w.content v.content i last x.reader y.reader here (call.ready more));
       read = both_weak u.content (AllReadOutBy a.cuts.now a.low old cs) (ReadsOutBy a.cuts.now a.low x y) (AllReadOutBy a.cuts.now a.low old (set cs i y)) inv.read
           (told_at u.content v.content (ReadsOutBy a.cuts.now a.low x y) inv.reads.content (call.read more))
-          (λ files so_far step instance cuts n low most journal way.
-          out_then files instance n a.low cs (set cs i y) journal (so_far instance cuts n low most journal way)
-          (λ now at. out_one files n cs now at i y inside instance a.low (step instance cuts n low most (now i) (subst (λ (z : Cursor). IsOnWay files n z (now i)) (sym is) (at.each i x inside)))));
+          (λ files so_far step instance cuts lowest n low most journal way.
+          out_then files instance lowest n a.low cs (set cs i y) journal (so_far instance cuts lowest n low most journal way)
+          (λ now at. out_one files instance lowest n cs now at i y inside a.low (step instance cuts lowest n low most (now i) (subst (λ (z : Cursor). IsOnWay files instance lowest n z (now i)) (sym is) (at.each i x inside)))));
       done = λ r d low. done_set cs i y inside inv.done (call.done more) r d low;
       reads = reads_more u v w (g.met.D.Disk.lawful a.disk.now) inv.reads call.reads;
       faults = omega (arith, inv.faults, c.read_out.ensures.faults.later);

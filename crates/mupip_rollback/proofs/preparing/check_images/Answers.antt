@@ -13,6 +13,6 @@ returns-in-Some-clause-first c = λ region generation is journal say.
     let x = c.in-Some.needing in
     let one : x.region ≡ region = cc is in
     let two : x.generation ≡ generation = cc is in
-    let first : (journal : ℕ → List Placed) → AllSay (found_signs found) journal → IsFirstWithout (found_records found journal) t x.region x.generation =
-    subst (λ (o : Option WithoutImages). IfSome o (λ y. (journal : ℕ → List Placed) → AllSay (found_signs found) journal → IsFirstWithout (found_records found journal) t y.region y.generation)) c.in-Some.is c.in_ok-first_needing.ensures.first in
+    let first : (journal : ℕ → List Placed) → AllSay found.read.log.records t (found_signs found) journal → IsFirstWithout (found_records found journal) t x.region x.generation =
+    subst (λ (o : Option WithoutImages). IfSome o (λ y. (journal : ℕ → List Placed) → AllSay found.read.log.records t (found_signs found) journal → IsFirstWithout (found_records found journal) t y.region y.generation)) c.in-Some.is c.in_ok-first_needing.ensures.first in
     subst (λ (r : ℕ). IsFirstWithout (found_records found journal) t r generation) one (subst (λ (h : ℕ). IsFirstWithout (found_records found journal) t x.region h) two (first journal say))

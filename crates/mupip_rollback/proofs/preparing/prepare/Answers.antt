@@ -24,7 +24,7 @@ returns-clause-prepared g c =
 pub returns-clause-held : goal.returns-clause-held
 returns-clause-held g c =
     let t_is : c.min-target.result ≡ min c.args.to (entry_count c.in_ok-found.found.entries) = (let a = c.min-target.ensures in let b = c.len.ensures.count in omega (arith, a, b)) in
-    held_of (g.D.Disk.disk c.args.disk.now) (g.D.Disk.disk c.find.new.disk) c.in_ok-found.found c.in_ok-found.ensures.has c.in_ok-found.ensures.found c.args.to c.min-target.result t_is c.open_first.result c.open_first.ensures.records c.open_first.ensures.kept c.open_first.ensures.none
+    held_of (g.D.Disk.disk c.args.disk.now) (g.D.Disk.disk c.find.new.disk) c.in_ok-found.found c.in_ok-found.ensures.has c.in_ok-found.ensures.found c.args.to c.min-target.result t_is c.in_ok-found.ensures.lowest c.open_first.result c.open_first.ensures.records c.open_first.ensures.kept c.open_first.ensures.none
 
 pub returns-clause-kept : goal.returns-clause-kept
 returns-clause-kept g c =
@@ -46,7 +46,7 @@ pub returns-clause-without : goal.returns-clause-without
 returns-clause-without g c = λ region first is.
     let t_is : c.min-target.result ≡ min c.args.to (entry_count c.in_ok-found.found.entries) = (let a = c.min-target.ensures in let b = c.len.ensures.count in omega (arith, a, b)) in
     weaker_told (g.D.Disk.disk c.args.disk.now).content _ _
-    (told_without (g.D.Disk.disk c.args.disk.now) (g.D.Disk.disk c.find.new.disk) c.in_ok-found.found c.in_ok-found.ensures.has c.in_ok-found.ensures.found c.args.to c.min-target.result t_is (λ u t. (generation u.instance < 65534) × IsFirstWithout u t region first)
+    (told_without (g.D.Disk.disk c.args.disk.now) (g.D.Disk.disk c.find.new.disk) c.in_ok-found.found c.in_ok-found.ensures.has c.in_ok-found.ensures.found c.args.to c.min-target.result t_is c.in_ok-found.ensures.lowest (λ u t. (generation u.instance < 65534) × IsFirstWithout u t region first)
     (λ journal say. (c.in_ok-found.ensures.has.low, c.open_first.ensures.first region first is journal say)))
     (λ files k. (k.0, k.1, k.2, k.3, k.4.0, k.4.1))
 

@@ -1,9 +1,11 @@
 use Rattle.disk_defs.specs.Disk.{Image}
 use Rattle.disk_defs.proofs.Moments.{nothing_new}
+use Rattle.site_files.proofs.InTurn.{found_for}
 use Rattle.site_files.proofs.reading.read_journals.Goals as goal
 
 pub returns-in-Ok-None-clause-found : goal.returns-in-Ok-None-clause-found
-returns-in-Ok-None-clause-found g c = rw (← c.look_side_by_side.ensures.content) c.read_in_turn.ensures.found
+returns-in-Ok-None-clause-found g c =
+    rw (← c.look_side_by_side.ensures.content) (found_for (g.D.Disk.disk c.look_side_by_side.new.disk).content c.args.log.now.records c.args.lowest c.args.regions c.args.last c.read_in_turn.result c.read_in_turn.ensures.found)
 
 pub returns-in-Ok-None-clause-durable : goal.returns-in-Ok-None-clause-durable
 returns-in-Ok-None-clause-durable g c = rw (← c.look_side_by_side.ensures.content) c.read_in_turn.ensures.durable

@@ -120,9 +120,9 @@ returns-clause-held g c =
     let directory = subst (λ (k : List InstanceRecord). IsDirectory k (Some c.in_ok-plan.plan.directory)) c.as_slice.ensures c.in_ok-plan.ensures.directory in
     let many : n ≡ length (regions rs) = c.in_ok-plan.ensures.regions ∙ ap (λ (d : Mapping). d.regions) directory.2 in
     let newest : g1 ≡ generation rs = c.in_ok-plan.ensures.newest ∙ ap generation c.as_slice.ensures in
-    rw (c.with_found.ensures.log, c.with_found.ensures.signs, c.with_found.ensures.entries)
-    (are_held u.content rs found.last_began.items signs found.entries n g1 many newest c.in_ok-log.ensures.reads
-    (told_at u.content v.content (λ files. (journal : ℕ → List Placed) × HaveFound files rs n g1 signs found.last_began.items found.entries journal) c.in_ok-log.ensures.content c.in_ok-found.ensures.found))
+    rw (c.with_found.ensures.log, c.with_found.ensures.signs, c.with_found.ensures.entries, c.with_found.ensures.lowest)
+    (are_held u.content rs c.args.lowest found.last_began.items signs found.entries n g1 many newest c.in_ok-log.ensures.reads
+    (told_at u.content v.content (λ files. (journal : ℕ → List Placed) × HaveFound files rs c.args.lowest n g1 signs found.last_began.items found.entries journal) c.in_ok-log.ensures.content c.in_ok-found.ensures.found))
 
 pub returns-clause-signs : goal.returns-clause-signs
 returns-clause-signs g c =

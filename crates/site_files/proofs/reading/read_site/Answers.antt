@@ -199,11 +199,11 @@ returns-clause-read g c =
     let drawn : g1 + 1 ≡ suc (generation rs) = omega (arith, newest) in
     let first = c.in_ok-log.ensures.content in
     let second = got.content ∙ first in
-    rw (c.with_found.ensures.log, c.with_found.ensures.signs, c.with_found.ensures.last_began, c.with_found.ensures.entries)
-    (was_read u.content v w x rs found.last_began.items signs found.entries n g1 (g1 + 1) many newest drawn
+    rw (c.with_found.ensures.log, c.with_found.ensures.signs, c.with_found.ensures.last_began, c.with_found.ensures.entries, c.with_found.ensures.lowest)
+    (was_read u.content v w x rs c.args.lowest found.last_began.items signs found.entries n g1 (g1 + 1) many newest drawn
     (g.met.D.Disk.lawful c.read_journals.new.disk) (g.met.D.Disk.lawful c.see_regions.new.disk) got.any_moment c.in_ok-see_regions.ensures.any_moment
     c.in_ok-log.ensures.reads c.in_ok-log.ensures.durable
-    (told_at u.content v.content (λ files. (journal : ℕ → List Placed) × HaveFound files rs n g1 signs found.last_began.items found.entries journal) first got.found)
+    (told_at u.content v.content (λ files. (journal : ℕ → List Placed) × HaveFound files rs c.args.lowest n g1 signs found.last_began.items found.entries journal) first got.found)
     (told_at u.content v.content (AreAllDurable w n g1) first got.durable)
     (told_at u.content w.content (AreUnbegun n (g1 + 1)) second c.in_ok-see_regions.ensures.next)
     (told_at u.content w.content (AreUnbegunDurable x n (g1 + 1)) second c.in_ok-see_regions.ensures.durable))

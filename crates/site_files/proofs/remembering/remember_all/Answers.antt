@@ -20,7 +20,7 @@ returns-in_err-broken-clause-outside g c =
     let signs = map (λ (s : Vec PlacedSign Global). s.items) c.args.read.now.signs.items in
     let p = err_from_is_err_and c.from_residual.result c.from_residual.ensures.1 in
     rw (p.1, p.2) (λ file offset is.
-    weaker_told (g.D.Disk.disk c.args.disk.now).content (λ files. (journal : ℕ → List Placed) → AreSigns files signs journal → ⊥) (λ files. (u : Records) (seq : Sequence) → AreFound files rs signs c.args.entries u seq → ⊥)
+    weaker_told (g.D.Disk.disk c.args.disk.now).content (λ files. (journal : ℕ → List Placed) → AreSigns files signs journal → ⊥) (λ files. (u : Records) (seq : Sequence) → AreFound files rs c.args.read.now.lowest signs c.args.entries u seq → ⊥)
     (c.in_err-broken.ensures.outside file offset (handed_on c.in_err-broken.field-0.0 (NotAFile file offset) is))
     (λ files none u seq found. none found.are_kept.kept found.are_kept.are))
 
@@ -43,11 +43,11 @@ returns-clause-broken g c =
     let text = c.in_ok-broken.broken in
     weaker_told (g.D.Disk.disk c.args.disk.now).content
     (λ files. (journal : ℕ → List Placed) → AreSigns files signs journal → text ≡ broken_text (site_name rs) n (broken (record { instance = rs; journal = journal }) n))
-    (λ files. (u : Records) (seq : Sequence) → AreFound files rs signs made u seq → text ≡ broken_text (site_name u.instance) (length seq) (broken u (length seq))) c.in_ok-broken.ensures.text
+    (λ files. (u : Records) (seq : Sequence) → AreFound files rs c.args.read.now.lowest signs made u seq → text ≡ broken_text (site_name u.instance) (length seq) (broken u (length seq))) c.in_ok-broken.ensures.text
     (λ files told u seq found.
     let kept = found.are_kept in
     let many : n ≡ length seq = c.len-length.ensures.count ∙ counted files rs made seq found.indexed in
     let here : text ≡ broken_text (site_name rs) (length seq) (broken (record { instance = rs; journal = kept.kept }) (length seq)) =
     subst (λ (k : ℕ). text ≡ broken_text (site_name rs) k (broken (record { instance = rs; journal = kept.kept }) k)) many (told kept.kept kept.are) in
     subst (λ (is : List InstanceRecord). text ≡ broken_text (site_name is) (length seq) (broken (record { instance = is; journal = u.journal }) (length seq))) (sym found.instance_is)
-    (here ∙ ap (broken_text (site_name rs) (length seq)) (broken_kept rs (length seq) u.journal kept.kept kept.thinned)))
+    (here ∙ ap (broken_text (site_name rs) (length seq)) (broken_kept rs c.args.read.now.lowest (length seq) u.journal kept.kept kept.thinned)))

@@ -27,9 +27,9 @@ returns-in_err-found-clause-outside g c =
     no_records (g.D.Disk.disk c.args.disk.now).content (c.in_err-found.ensures.outside file offset (file_was c.in_err-found.field-0.0 file offset is)))
 
 -- the records hold so many entries
-held_entries : (o : Option Files) (rs : List InstanceRecord) (signs : List (List PlacedSign)) (index : EntryIndex) (n : ℕ) → n ≡ entry_count index
-    → IfSome o (λ files. (u : Records) × (seq : Sequence) × AreFound files rs signs index u seq) → IfSome o (HoldEntries rs n)
-held_entries o rs signs index n count held = weaker_told o (λ files. (u : Records) × (seq : Sequence) × AreFound files rs signs index u seq) (HoldEntries rs n) held
+held_entries : (o : Option Files) (rs : List InstanceRecord) (lowest : ℕ) (signs : List (List PlacedSign)) (index : EntryIndex) (n : ℕ) → n ≡ entry_count index
+    → IfSome o (λ files. (u : Records) × (seq : Sequence) × AreFound files rs lowest signs index u seq) → IfSome o (HoldEntries rs n)
+held_entries o rs lowest signs index n count held = weaker_told o (λ files. (u : Records) × (seq : Sequence) × AreFound files rs lowest signs index u seq) (HoldEntries rs n) held
     (λ files x. (x.0, x.2.instance_is, x.2.held, x.1, x.2.sequence, count ∙ counted files rs index x.1 x.2.indexed))
 
 pub returns-clause-history : goal.returns-clause-history
@@ -39,7 +39,7 @@ returns-clause-history g c =
     let own : c.in_ok-found.found.read.log.history ≡ reigns rs = search rules in
     let made : c.in_ok-reigns.reigns ≡ filter (λ (r : Reign). nat_le r.start n) (reigns rs) = c.in_ok-reigns.ensures ∙ ap (filter (λ (r : Reign). nat_le r.start n)) (c.as_slice.ensures ∙ own) in
     history_read (g.D.Disk.disk c.args.disk.now).content rs n (record { length = n; reigns = c.in_ok-reigns.reigns })
-    (held_entries (g.D.Disk.disk c.args.disk.now).content rs (map (λ s. s.items) c.in_ok-found.found.read.signs.items) c.in_ok-found.found.entries n c.len-length.ensures.count c.in_ok-found.ensures.held) refl made
+    (held_entries (g.D.Disk.disk c.args.disk.now).content rs c.in_ok-found.found.read.lowest (map (λ s. s.items) c.in_ok-found.found.read.signs.items) c.in_ok-found.found.entries n c.len-length.ensures.count c.in_ok-found.ensures.held) refl made
 
 pub returns-clause-told : goal.returns-clause-told
 returns-clause-told g c =
@@ -48,4 +48,4 @@ returns-clause-told g c =
     let own : c.in_ok-found.found.read.log.history ≡ reigns rs = search rules in
     let made : c.in_ok-reigns.reigns ≡ filter (λ (r : Reign). nat_le r.start n) (reigns rs) = c.in_ok-reigns.ensures ∙ ap (filter (λ (r : Reign). nat_le r.start n)) (c.as_slice.ensures ∙ own) in
     history_told (g.D.Disk.disk c.args.disk.now).content rs n (record { length = n; reigns = c.in_ok-reigns.reigns })
-    (held_entries (g.D.Disk.disk c.args.disk.now).content rs (map (λ s. s.items) c.in_ok-found.found.read.signs.items) c.in_ok-found.found.entries n c.len-length.ensures.count c.in_ok-found.ensures.held) refl made
+    (held_entries (g.D.Disk.disk c.args.disk.now).content rs c.in_ok-found.found.read.lowest (map (λ s. s.items) c.in_ok-found.found.read.signs.items) c.in_ok-found.found.entries n c.len-length.ensures.count c.in_ok-found.ensures.held) refl made

@@ -20,7 +20,7 @@ returns-clause-none c =
     let signs = c.deref.result.now in
     let many : length signs ≡ length (regions rs) = ap length c.deref.ensures.value ∙ c.requires.has.signs in
     if_ok c.first_without_images.result _ _ c.first_without_images.ensures.none (λ found none is journal say.
-    none_is rs c.args.target (length signs) journal many (none is journal (subst (λ (l : List (Vec PlacedSign Global)). AllSay (map (λ s. s.items) l) journal) (sym c.deref.ensures.value) say)))
+    none_is rs c.args.target (length signs) journal many (none is journal (subst (λ (l : List (Vec PlacedSign Global)). AllSay rs c.args.target (map (λ s. s.items) l) journal) (sym c.deref.ensures.value) say)))
 
 pub returns-clause-first : goal.returns-clause-first
 returns-clause-first c =
@@ -28,5 +28,5 @@ returns-clause-first c =
     let signs = c.deref.result.now in
     let many : length signs ≡ length (regions rs) = ap length c.deref.ensures.value ∙ c.requires.has.signs in
     if_ok c.first_without_images.result _ _ c.first_without_images.ensures.first (λ found first.
-    first_told rs c.args.target (length signs) many (λ journal. AllSay (found_signs c.args.found.now) journal) (λ journal. AllSay (map (λ s. s.items) signs) journal)
-    (λ journal say. subst (λ (l : List (Vec PlacedSign Global)). AllSay (map (λ s. s.items) l) journal) (sym c.deref.ensures.value) say) found first)
+    first_told rs c.args.target (length signs) many (λ journal. AllSay rs c.args.target (found_signs c.args.found.now) journal) (λ journal. AllSay rs c.args.target (map (λ s. s.items) signs) journal)
+    (λ journal say. subst (λ (l : List (Vec PlacedSign Global)). AllSay rs c.args.target (map (λ s. s.items) l) journal) (sym c.deref.ensures.value) say) found first)

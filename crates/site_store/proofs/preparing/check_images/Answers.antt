@@ -12,6 +12,6 @@ returns-in-Some-clause-first c = λ region is journal say.
     let t = c.args.target in
     let x = c.in-Some.needing in
     let same : x.region ≡ region = cc is in
-    let first : (journal : ℕ → List Placed) → AllSay (found_signs found) journal → IsFirstWithout (found_records found journal) t x.region x.generation =
-    subst (λ (o : Option WithoutImages). IfSome o (λ y. (journal : ℕ → List Placed) → AllSay (found_signs found) journal → IsFirstWithout (found_records found journal) t y.region y.generation)) c.in-Some.is c.in_ok-needing.ensures.first in
+    let first : (journal : ℕ → List Placed) → AllSay found.read.log.records t (found_signs found) journal → IsFirstWithout (found_records found journal) t x.region x.generation =
+    subst (λ (o : Option WithoutImages). IfSome o (λ y. (journal : ℕ → List Placed) → AllSay found.read.log.records t (found_signs found) journal → IsFirstWithout (found_records found journal) t y.region y.generation)) c.in-Some.is c.in_ok-needing.ensures.first in
     (x.generation, subst (λ (r : ℕ). IsFirstWithout (found_records found journal) t r x.generation) same (first journal say))

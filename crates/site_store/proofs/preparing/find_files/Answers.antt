@@ -102,7 +102,7 @@ returns-clause-found g c =
     let made = c.in_ok-remembered.ensures in
     found_of u v0 v1 v2 w _ same3 lawful1 lawful2 lawful3 c.sync_texts.ensures.any_moment c.sync_databases.ensures.any_moment run3
     (subst (λ (i : EntryIndex). IfSome u.content (IsRead v0 read i)) (sym made.entries) c.in_ok-found.ensures.read)
-    (subst (λ (i : EntryIndex). IfSome v2.content (λ files. (x : Records) (seq : Sequence) → AreFound files rs (map (λ s. s.items) read.signs.items) i x seq → c.in_ok-remembered.remembered.broken ≡ broken_text (site_name x.instance) (length seq) (broken x (length seq)))) (sym made.entries) made.broken)
+    (subst (λ (i : EntryIndex). IfSome v2.content (λ files. (x : Records) (seq : Sequence) → AreFound files rs read.lowest (map (λ s. s.items) read.signs.items) i x seq → c.in_ok-remembered.remembered.broken ≡ broken_text (site_name x.instance) (length seq) (broken x (length seq)))) (sym made.entries) made.broken)
     (texts_still u.content v1 v2 (generation rs) lawful2 c.sync_databases.ensures.any_moment
     (told_at u.content v0.content (AreTextsDurable v1 (generation rs)) same1 (subst (λ (k : ℕ). IfSome v0.content (AreTextsDurable v1 k)) (c.generation_in.ensures ∙ ap generation c.as_slice.ensures) c.in_ok-sync_texts.ensures.durable)))
     (told_at u.content v1.content (AreDatabasesDurable v2 (length (regions rs))) same2

@@ -7,7 +7,8 @@ use Rattle.site_defs.specs.Outside.{IsOutsideSite}
 use Rattle.site_defs.specs.OutsideBlocks.{IsOutsideOpening, whole}
 use Rattle.site_store.proofs.Errors.{handed_on}
 use Rattle.site_store.specs.Needing.{IsFirstWithout}
-use Rattle.site_store.specs.Standing.{Stood, found_records}
+use Rattle.site_store.specs.Standing.{Stood, found_records, found_signs}
+use Rattle.region_opening.specs.Signs.{AllSay}
 use Rattle.site_defs.specs.Contents.{Contents}
 use Rattle.site_defs.specs.Stands.{IsSite}
 use Rattle.site_store.proofs.Founded.{stood_ok, first_needing, blocks_outside, no_site_there, none_there}
@@ -60,7 +61,7 @@ returns-in_err-check_images-clause-needs g c =
     rw (p.1, p.2) (λ region is.
     let first = c.in_err-check_images.ensures.first region (handed_on c.in_err-check_images.field-0.0 (error.NeedForward region) is) in
     first_needing (view c.args.disk.now) (view c.find_files.new.disk) f c.in_ok-found.ensures.has c.in_ok-found.ensures.found region (λ journal say.
-    let one = first journal say in (one.0, subst (λ (n : ℕ). IsFirstWithout (found_records f journal) n region one.0) all one.1)))
+    let one = first journal (subst (λ (n : ℕ). AllSay f.read.log.records n (found_signs f) journal) (sym all) say) in (one.0, subst (λ (n : ℕ). IsFirstWithout (found_records f journal) n region one.0) all one.1)))
 
 pub returns-clause-stood : goal.returns-clause-stood
 returns-clause-stood g c =

@@ -32,8 +32,8 @@ returns-in_err-globals-clause-outside g c =
     let f = c.args.found in
     let p = err_from_is_err_and c.from_residual-in_err-globals.result c.from_residual-in_err-globals.ensures.1 in
     rw (p.1, p.2) (λ file offset is.
-    weaker_told v.content (λ files. (signs : List (List PlacedSign)) (u : Records) (seq : Sequence) → AreFound files f.read.log.records signs f.entries u seq → ⊥) (IfFound f (λ _ _ _. ⊥))
-    (c.in_err-globals.ensures.outside file offset (region_was c.in_err-globals.field-0.0 file offset is)) (λ files never u seq found. never (found_signs f) u seq found))
+    weaker_told v.content (λ files. (lowest : ℕ) (signs : List (List PlacedSign)) (u : Records) (seq : Sequence) → AreFound files f.read.log.records lowest signs f.entries u seq → ⊥) (IfFound f (λ _ _ _. ⊥))
+    (c.in_err-globals.ensures.outside file offset (region_was c.in_err-globals.field-0.0 file offset is)) (λ files never u seq found. never f.read.lowest (found_signs f) u seq found))
 
 pub returns-clause-opened : goal.returns-clause-opened
 returns-clause-opened g c =
@@ -51,10 +51,10 @@ returns-clause-opened g c =
     subst (λ (k : Joined). IsOpenAs true v w f n k) (sym c.in_ok-stand_on.ensures.globals) (record {
       blocks = on_files v.content f n globals (got.patterns ∙ ap (λ d. d.patterns) dir) many got.files got.held;
       regions = are_held v w (length (regions rs)) globals c.rebuild_regions.ensures.reads.content many got.files got.held;
-      nodes = weaker_told v.content (λ files. (signs : List (List PlacedSign)) (u : Records) (seq : Sequence) → AreFound files rs signs f.entries u seq → joined globals ≡ state seq)
+      nodes = weaker_told v.content (λ files. (lowest : ℕ) (signs : List (List PlacedSign)) (u : Records) (seq : Sequence) → AreFound files rs lowest signs f.entries u seq → joined globals ≡ state seq)
           (IfFound f (λ u seq files. IsSoundImage files u seq → joined globals ≡ state (take n seq))) got.state (λ files made u seq found sound.
           let all : take n seq ≡ seq = ap (λ (m : ℕ). take m seq) (counted f.entries (length seq) some found.indexed.rows) ∙ take-length seq in
-          made (found_signs f) u seq found ∙ ap state (sym all));
+          made f.read.lowest (found_signs f) u seq found ∙ ap state (sym all));
       some = got.some;
       none = got.none;
     })

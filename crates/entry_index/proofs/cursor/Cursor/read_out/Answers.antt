@@ -22,8 +22,8 @@ loop-self-preserved g c =
           (ready_on (view c.step.new.disk).content (view l.disk).content a.self.now.reader.region a.self.now.reader.last l.self.reader mid.reader inv.ready (call.ready more));
       read = both_weak o (ReadsOutBy a.cuts.now a.low a.self.now l.self) (ReadsOnBy a.cuts.now a.low l.self mid) (ReadsOutBy a.cuts.now a.low a.self.now new) inv.read
           (told_at o (view l.disk).content (ReadsOnBy a.cuts.now a.low l.self mid) inv.reads.content (call.read more))
-          (λ files so_far step instance cuts n low most journal way.
-          outs_then files instance n a.low l.self mid new journal (so_far instance cuts n low most journal way) (λ now is. step instance cuts n low most now is) (λ now is. c.in_ok-release-2.ensures.kept files n now is));
+          (λ files so_far step instance cuts lowest n low most journal way.
+          outs_then files instance lowest n a.low l.self mid new journal (so_far instance cuts lowest n low most journal way) (λ now is. step instance cuts lowest n low most now is) (λ now is. c.in_ok-release-2.ensures.kept files instance lowest n now is));
       none = c.in_ok-release-2.ensures.none;
       reads = reads_more (view a.disk.now) (view l.disk) (view c.step.new.disk) (g.met.D.Disk.lawful a.disk.now) inv.reads call.reads;
       faults = omega (arith, inv.faults, c.step.ensures.faults.later);

@@ -1,4 +1,4 @@
-use Rattle.std.proofs.Common.{◌≡◌, ◌+◌, refl, sym, ◌∙◌, ap, arith}
+use Rattle.std.proofs.Common.{◌≡◌, inl, ◌+◌, refl, sym, ◌∙◌, ap, arith}
 use Rattle.entry_index.specs.declared.signed_part.PartSign.{PartSign}
 use Rattle.entry_index.specs.Signs.{if_numbered}
 use Rattle.entry_index.proofs.Cursors.{settled_part, settled_none, other_waits}
@@ -9,7 +9,7 @@ returns-clause-settled c files n number =
     let s : PartSign = c.in-Some.part in
     let of : s.number ≡ c.args.number = omega (arith, c.if-part-number.false) in
     settled_part files n c.args.self.now _ s c.in-Some.is (of ∙ number) refl refl
-    (λ before x drawn sign keeps. c.in_ok-keep_part.ensures files c.args.self.now.reader.region (n + 1) before x (λ _. omega (arith, of, number)) drawn sign keeps)
+    (λ instance lowest before x drawn sign keeps. c.in_ok-keep_part.ensures files instance lowest c.args.self.now.reader.region (n + 1) before x (λ _. inl (omega (arith, of, number))) drawn sign keeps)
 
 pub returns-then-part-number-clause-settled : goal.returns-then-part-number-clause-settled
 returns-then-part-number-clause-settled c files n number =

@@ -15,12 +15,12 @@ returns-in_ok-take_part-in-Some-clause-read g c more =
     let placed = placed_by c.in-Some.part in
     let same : c.pass_part.new.self.region ≡ p.region = c.pass_part.ensures.same.region in
     weaker_told o (IsPieceOf p.pieces) (ReadsOnBy a.cuts.now a.low a.self.now c.take_part.new.self) c.requires.ready.told
-    (λ files piece instance cuts n low most journal way.
+    (λ files piece instance cuts lowest n low most journal way.
     let next = subst (λ (x : Reader). IsNextRecord files p.region x journal placed) (sym c.take_part.ensures.same) (c.in-Some.ensures.passed files piece journal way.at) in
-    let keeps = subst (λ (r : ℕ). Keeps files r n a.self.now.kept journal) (sym same) (all_kept files n a.self.now journal c.requires.none way) in
+    let keeps = subst (λ (r : ℕ). Keeps files instance lowest r n a.self.now.kept journal) (sym same) (all_kept files instance lowest n a.self.now journal c.requires.none way) in
     let sign = subst (λ (r : ℕ). IsSignOf files r placed next.what) (sym same) next.sign in
-    step_read files instance n a.low a.self.now c.take_part.new.self journal placed c.requires.none (ap (λ (x : Reader). x.region) c.take_part.ensures.same ∙ same) next
-    (c.in_ok-take_part-in-Some.ensures.taken more files instance cuts n low most journal next.what next.drawn sign next.offset keeps))
+    step_read files instance lowest n a.low a.self.now c.take_part.new.self journal placed c.requires.none (ap (λ (x : Reader). x.region) c.take_part.ensures.same ∙ same) next
+    (c.in_ok-take_part-in-Some.ensures.taken more files instance cuts lowest n low most journal next.what next.drawn sign next.offset keeps))
 
 pub returns-in-None-clause-read : goal.returns-in-None-clause-read
 returns-in-None-clause-read g c =

@@ -20,9 +20,9 @@ returns-in_ok-take-in-Read-clause-read g c more =
     weaker_told o (λ files. (journal : List Placed) → IsAt files p journal → Stepped files p.region q journal (Read placed))
     (ReadsOnBy a.cuts.now a.low a.self.now c.take.new.self)
     (subst (λ (s : Step). IfSome o (λ files. (journal : List Placed) → IsAt files p journal → Stepped files p.region q journal s)) c.in-Read.is c.in_ok-placed.ensures.stepped)
-    (λ files step instance cuts n low most journal way.
+    (λ files step instance cuts lowest n low most journal way.
     let next = subst (λ (x : Reader). IsNextRecord files p.region x journal placed) (sym c.take.ensures.same) (step journal way.at) in
-    let keeps = subst (λ (r : ℕ). Keeps files r n a.self.now.kept journal) (sym same) (all_kept files n a.self.now journal c.requires.none way) in
+    let keeps = subst (λ (r : ℕ). Keeps files instance lowest r n a.self.now.kept journal) (sym same) (all_kept files instance lowest n a.self.now journal c.requires.none way) in
     let sign = subst (λ (r : ℕ). IsSignOf files r placed next.what) (sym same) next.sign in
-    step_read files instance n a.low a.self.now c.take.new.self journal placed c.requires.none (ap (λ (x : Reader). x.region) c.take.ensures.same ∙ same) next
-    (c.in_ok-take-in-Read.ensures.taken more files instance cuts n low most journal next.what next.drawn sign next.offset keeps))
+    step_read files instance lowest n a.low a.self.now c.take.new.self journal placed c.requires.none (ap (λ (x : Reader). x.region) c.take.ensures.same ∙ same) next
+    (c.in_ok-take-in-Read.ensures.taken more files instance cuts lowest n low most journal next.what next.drawn sign next.offset keeps))
