@@ -18,7 +18,9 @@ use Rattle.entry_index.specs.Thinned.{part_generation, MayGo, is_floor_in, has_f
 use Rattle.entry_index.specs.declared.kept.Kept.{Kept}
 use Rattle.entry_index.specs.declared.kept.EpochSign.{EpochSign}
 use Rattle.entry_index.specs.declared.placed.PlacedSign.{PlacedSign}
-use Rattle.entry_index.proofs.Either.{or_left, or_right}
+use Rattle.jnl_file.proofs.Zips.{zip_append}
+use Rattle.entry_index.proofs.Either.{or_left, or_right, first_none, second_none}
+use Rattle.entry_index.proofs.Thinning.{all_more}
 
 never_empty : (ks : List Placed) (e : Placed) → ks ++ e ∷ [] ≡ [] → ⊥
 never_empty [] e none = cc none
@@ -33,14 +35,6 @@ rest_same k p ks ps is = cc is
 -- no surviving part past the first n entries is among these records
 abbrev pub NonePast : List InstanceRecord → ℕ → List Placed → Type 0
 NonePast instance n js = (m : ℕ) → n < m → part_of instance m js ≡ None
-
-first_none : (a b : Option Part) → option_or a b ≡ None → a ≡ None
-first_none None b none = refl
-first_none (Some p) b none = absurd (cc none)
-
-second_none : (a b : Option Part) → option_or a b ≡ None → b ≡ None
-second_none None b none = none
-second_none (Some p) b none = absurd (cc none)
 
 none_past_behind : (instance : List InstanceRecord) (n : ℕ) (p : Placed) (js : List Placed) → NonePast instance n (p ∷ js) → NonePast instance n js
 none_past_behind instance n p js none m later = first_none (part_of instance m js) (part_in instance m p.generation p.what) (none m later)
@@ -112,12 +106,6 @@ zip_split {X} {Y} P (w ∷ xs) x (y ∷ ys) zip =
     let later = zip_split P xs x ys zip.1 in
     record { before = y ∷ later.before; last = later.last; whole = ap (λ (l : List Y). y ∷ l) later.whole; all = (zip.0, later.all); here = later.here }
 
-zip_last : {X Y : Type 0} (P : X → Y → Type 0) (xs : List X) (x : X) (ys : List Y) (y : Y) → AllZip P xs ys → P x y → AllZip P (xs ++ x ∷ []) (ys ++ y ∷ [])
-zip_last P [] x [] y all here = (here, tt)
-zip_last P [] x (w ∷ ys) y all here = absurd all
-zip_last P (v ∷ xs) x [] y all here = absurd all
-zip_last P (v ∷ xs) x (w ∷ ys) y all here = (all.0, zip_last P xs x ys y all.1 here)
-
 zip_filter : {X Y : Type 0} (P : X → Y → Type 0) (f : X → Bool) (g : Y → Bool) → ((x : X) (y : Y) → P x y → f x ≡ g y) → (xs : List X) (ys : List Y) → AllZip P xs ys → AllZip P (filter f xs) (filter g ys)
 zip_filter P f g same [] [] all = tt
 zip_filter P f g same [] (y ∷ ys) all = absurd all
@@ -131,10 +119,6 @@ zip_filter {X} {Y} P f g same (x ∷ xs) (y ∷ ys) all = by (g y) refl (zip_fil
 all_before : {X : Type 0} (P : X → Type 0) (xs : List X) (x : X) → AllByRecursion P (xs ++ x ∷ []) → AllByRecursion P xs × P x
 all_before P [] x all = (tt, all.0)
 all_before P (y ∷ xs) x all = let later = all_before P xs x all.1 in ((all.0, later.0), later.1)
-
-all_last : {X : Type 0} (P : X → Type 0) (xs : List X) (x : X) → AllByRecursion P xs → P x → AllByRecursion P (xs ++ x ∷ [])
-all_last P [] x all here = (here, tt)
-all_last P (y ∷ xs) x all here = (all.0, all_last P xs x all.1 here)
 
 all_filter : {X : Type 0} (P : X → Type 0) (f : X → Bool) (xs : List X) → AllByRecursion P xs → AllByRecursion P (filter f xs)
 all_filter P f [] all = tt
@@ -188,9 +172,9 @@ keeps_forgotten files instance lowest region n old new e ss s before ends was no
     record {
       kept = filter stays parts.before ++ x ∷ [];
       are = subst (λ (l : List PlacedSign). AllZip (IsSignOf files region) l (filter stays parts.before ++ x ∷ [])) (sym now)
-          (zip_last (IsSignOf files region) (filter (λ q. stays_by q.sign) ss) s (filter stays parts.before) x
-          (zip_filter (IsSignOf files region) (λ q. stays_by q.sign) stays (λ q p is. ap stays_by is.says) ss parts.before parts.all) parts.here);
-      drawn = all_last IsDrawn (filter stays parts.before) x (all_filter IsDrawn stays parts.before drawn.0) drawn.1;
+          (zip_append (IsSignOf files region) (filter (λ q. stays_by q.sign) ss) (s ∷ []) (filter stays parts.before) (x ∷ [])
+          (zip_filter (IsSignOf files region) (λ q. stays_by q.sign) stays (λ q p is. ap stays_by is.says) ss parts.before parts.all) (parts.here, tt));
+      drawn = all_more IsDrawn (filter stays parts.before) x (all_filter IsDrawn stays parts.before drawn.0) drawn.1;
       thinned = forgets instance lowest n x floor stays (λ p none goes. may_go instance n p.generation p.what none goes) None before parts.before past (subst (IsThinned instance lowest n None before) parts.whole k.thinned);
       behind = λ some. let same : new.behind ≡ old.behind = behind in k.behind (omega (arith, some, same)) ∙ ap Some (sym behind);
     }

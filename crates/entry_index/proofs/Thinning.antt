@@ -102,7 +102,7 @@ behind_more : (b : Option ℕ) (js : List Placed) (x : Placed) → behind_of b (
 behind_more b [] x = refl
 behind_more b (p ∷ js) x = behind_more (part_generation p.generation p.what) js x
 
-all_more : {X : Type 0} (P : X → Type 0) (xs : List X) (x : X) → AllByRecursion P xs → P x → AllByRecursion P (xs ++ x ∷ [])
+pub all_more : {X : Type 0} (P : X → Type 0) (xs : List X) (x : X) → AllByRecursion P xs → P x → AllByRecursion P (xs ++ x ∷ [])
 all_more P [] x all here = (here, tt)
 all_more P (y ∷ xs) x all here = (all.0, all_more P xs x all.1 here)
 

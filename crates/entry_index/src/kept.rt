@@ -105,15 +105,16 @@ impl Kept {
         epoch_of(self.signs.last()?)
     }
 
-    /// Drops signs before the last one, which is that of an epoch past which no target goes back. It does so where there are twice as many
-    /// as were left the last time, so that each sign is looked at a few times at most.
+    /// Whether there are twice as many signs as were left the last time.
+    fn has_doubled(&self) -> bool {
+        self.signs.len() / 2 >= self.least
+    }
+
+    /// Drops signs before the last one, which is that of an epoch past which no target goes back.
     fn forget(&mut self) -> Result<(), NoMemory>
         ensures { OnOk result ((files : Files) (instance : List instances.InstanceRecord) (lowest region n : ℕ) (before : List Placed) (e : EpochSign) → EndsWith self.old.signs.items e → survives instance e.generation e.number ≡ true → e.number ≤ lowest → e.number ≤ n
             → ((m : ℕ) → n < m → part_of instance m before ≡ None) → Keeps files instance lowest region n self.old before → Keeps files instance lowest region n self.new before) }
     {
-        if self.signs.len() / 2 < self.least {
-            return Ok(());
-        }
         let Some(last) = self.signs.pop() else {
             return Ok(());
         };
@@ -124,8 +125,9 @@ impl Kept {
     }
 
     /// Whether to read no further for now: the last record is a surviving epoch to which a target may go back, and past the first `settled`
-    /// entries. Where it's one of these entries', signs before it are dropped, of surviving parts that are all of these entries. `lowest` is
-    /// the lowest target that may be asked for.
+    /// entries. Where it's one of these entries', signs before it are dropped, of surviving parts that are all of these entries: once there
+    /// are twice as many as were left the last time, so that each sign is looked at a few times at most. `lowest` is the lowest target that
+    /// may be asked for.
     #[inline(never)]
     pub fn rests(&mut self, cuts: &Cuts, settled: u64, lowest: u64) -> Result<bool, NoMemory>
         requires cuts { (rs : List instances.InstanceRecord) × AreCuts rs cuts.now }
@@ -138,13 +140,12 @@ impl Kept {
         if epoch.number > lowest {
             return Ok(false);
         }
-        if !cuts.spare(epoch.generation, epoch.number) {
-            return Ok(false);
-        }
         if epoch.number > settled {
-            return Ok(true);
+            return Ok(cuts.spare(epoch.generation, epoch.number));
         }
-        self.forget()?;
+        if self.has_doubled() && cuts.spare(epoch.generation, epoch.number) {
+            self.forget()?;
+        }
         Ok(false)
     }
 }

@@ -42,9 +42,9 @@ const TOO_MANY: u64 = 1 << 40;
 pub struct FoundJournals {
     /// Where the parts of each entry stand.
     pub entries: EntryIndex,
-    /// By region, what its records say, in journal order: of all that are no parts, of the parts past the entries, and of the parts
-    /// that stand behind no part of their generation; but of what stands before an epoch past which no target goes back, perhaps of
-    /// PINIs and of parts past the entries alone.
+    /// By region, what its records say, in journal order: of all that are no parts, of the surviving parts past the entries, and of the
+    /// parts that stand behind no part of their generation; but of what stands before an epoch past which no target goes back, perhaps
+    /// of PINIs and of surviving parts past the entries alone.
     pub signs: Vec<Vec<PlacedSign>>,
     /// By region, the last generation that began, or 0.
     pub last_began: Vec<u32>,
@@ -332,7 +332,8 @@ fn found_by(
 /// Syncs the journals of the first regions up to a generation, looks all through at once, entry by entry, and indexes the entries.
 ///
 /// It reads each file once and keeps no sign of the parts of an entry that is told, but where they begin a run of parts; and, of what
-/// stands before an epoch past which no target goes back, the signs of PINIs and of parts past it alone, or of a few records more.
+/// stands before an epoch past which no target goes back, the signs of PINIs and of surviving parts past the entries alone, or of a few
+/// records more.
 /// `lowest` is the lowest target for which the regions may be opened; one past all entries stands for these. Answers `None` where the
 /// numbers of a region's surviving parts don't rise, as a site writes them, or some file is no journal.
 pub fn look_side_by_side<D: Disk>(

@@ -18,7 +18,7 @@ use Rattle.site_defs.specs.Opening.{with_starts}
 use Rattle.site_defs.specs.Rolling.{cut_to}
 use Rattle.site_files.specs.Loading.{MayBeOpened, HasDrawn, last_of, next_cut, next_pini}
 use Rattle.region_store.specs.Joined.{Joined, joined}
-use Rattle.site_store.specs.declared.site.OpenSite.{OpenSite}
+use Rattle.site_store.specs.declared.memory.Memory.{Memory}
 use Rattle.site_store.specs.Site.{IsOpen, AreOnBlocks}
 use Rattle.site_store.proofs.OpenedTo.{newly}
 use Rattle.site_store.proofs.Rolled.{open_cut}
@@ -27,7 +27,7 @@ use Rattle.mupip_rollback.specs.declared.preparing.Kept.{Kept}
 
 module _ (v w : View) (rs : List InstanceRecord) (kept : Kept) (form : MayBeOpened rs (last_of kept.last_began.items)) (lawful : IsLawful w)
     (n : ℕ) (lasts : List ℕ) (n_is : n ≡ entry_count kept.entries) (lasts_is : lasts ≡ kept.last_began.items)
-    (s : OpenSite) (entries : s.entries ≡ kept.entries) (globals : s.globals ≡ kept.globals) (hardened : s.hardened ≡ n) (begun : List Journal) (js_are : s.journals.journals.items ≡ map newly begun) where
+    (s : Memory) (entries : s.entries ≡ kept.entries) (globals : s.globals ≡ kept.globals) (hardened : s.hardened ≡ n) (begun : List Journal) (js_are : s.journals.journals.items ≡ map newly begun) where
   abbrev T : ℕ
   T = entry_count kept.entries
 

@@ -8,7 +8,7 @@ use Rattle.site_defs.specs.Contents.{Contents, Leftover, Standing, bare}
 use Rattle.site_defs.specs.Epochs.{marked, MayMark, MayMarkLeft}
 use Rattle.site_defs.specs.Forward.{opened_as, recovered_as, MayOpenAs, MayRecoverAs}
 use Rattle.site_defs.specs.Stands.{IsSite, HasLeft}
-use Rattle.site_store.specs.declared.site.OpenSite.{OpenSite}
+use Rattle.site_store.specs.declared.memory.Memory.{Memory}
 use Rattle.site_store.specs.Opening.{EachStands, MayBeOpenAs, MayBeOpenWithAs}
 use Rattle.site_store.specs.Site.{IsOpen}
 use Rattle.mupip_rollback.specs.Rolling.{StandsFor, MayBeRecoveredAs, MayBeRecoveredWithAs}
@@ -24,7 +24,7 @@ Lefts anew u v files = (c : Contents) → IsSite files c → AtEachMoment u v (M
 abbrev pub StandsOpen : (anew : Bool) → Option Files → Files → Type 0
 StandsOpen anew now files = (c : Contents) (left : Leftover) → IsSite files c → HasLeft files c left → IfSome now (λ f. (o : Contents) × MayOpenAs anew left.broken c o × IsSite f o)
 
-abbrev pub Opens : (anew : Bool) → View → View → OpenSite → Files → Type 0
+abbrev pub Opens : (anew : Bool) → View → View → Memory → Files → Type 0
 Opens anew u v s files = (c : Contents) (left : Leftover) → IsSite files c → HasLeft files c left → EachStands u → IsOpen v true (opened_as anew left.broken c) (length c.sequence) s
 
 -- and of both
@@ -51,7 +51,7 @@ module _ (anew : Bool) (u v : View) where
   stands_opened now reads = weaker_told u.content (StandsOpen anew now) (StandsRecovered anew u now) reads (λ files m c left is has each.
       weaker_told now (λ f. (o : Contents) × MayOpenAs anew left.broken c o × IsSite f o) (λ f. (o : Contents) × MayRecoverAs anew left.broken c o × IsSite f o) (m c left is has) (λ f r. (r.0, inl r.1, r.2)))
 
-  module _ (w : View) (s : OpenSite) (lawful : IsLawful u) (open_now : IfSome u.content (Opens anew u v s)) where
+  module _ (w : View) (s : Memory) (lawful : IsLawful u) (open_now : IfSome u.content (Opens anew u v s)) where
     abbrev Here : Files → Type 0
     Here files = u.since u.moment files
 

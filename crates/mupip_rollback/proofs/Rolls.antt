@@ -30,7 +30,7 @@ use Rattle.site_files.proofs.Kept.{image_read}
 use Rattle.region_store.specs.Joined.{joined}
 use Rattle.site_store.specs.Needing.{NoneNeeds}
 use Rattle.site_store.specs.declared.preparing.FoundFiles.{FoundFiles}
-use Rattle.site_store.specs.declared.site.OpenSite.{OpenSite}
+use Rattle.site_store.specs.declared.memory.Memory.{Memory}
 use Rattle.site_store.specs.Opening.{AreDatabasesDurable}
 use Rattle.site_store.specs.Site.{AreHeld, AreOnBlocks, AreSynced, StandOn, IsOpen}
 use Rattle.site_store.specs.Standing.{IfFound, found_records}
@@ -340,7 +340,7 @@ module _ (v : View) (p : Prepared) (P : IsPrepared v p) where
               let drawn = at_files v.content files (λ _. (e : Files) × Drawing) told (told_back (λ _. Drawing) run) in
               as_told v.content files (λ _. (c : Contents) → IsAll c → Rolling w c) told (drawn_in files told g first done drawn.1))
 
-          module _ (s : OpenSite) (lawful_x : IsLawful x) where
+          module _ (s : Memory) (lawful_x : IsLawful x) where
             abbrev pub Opens : Type 0
             Opens = (c : Contents) → IsCutOff x is c p.kept → IsOpen w true (with_starts (length (regions is)) (cut_to t c)) t s
 
@@ -374,7 +374,7 @@ module _ (v : View) (p : Prepared) (P : IsPrepared v p) where
                     | inr some ↦ (q.0, inr (inr (inr (some.0, some.1))), standing_of b q.0 q.2)
                   ]))
 
-              pub closed : (after_it : OpenSite) → IsLawful z → ((c : Contents) → IsOpen w true c (length c.sequence) s → IsOpen z true (marked c) (length c.sequence) after_it)
+              pub closed : (after_it : Memory) → IsLawful z → ((c : Contents) → IsOpen w true c (length c.sequence) s → IsOpen z true (marked c) (length c.sequence) after_it)
                   → ((c : Contents) → IsOpen w true c (length c.sequence) s → (b : Files) → Image z b → NoneNeeds (length c.sequence) b)
                   → IfSome v.content (λ _. (c : Contents) → IsAll c → StandsFor z (rolled t f.broken c))
               closed after_it lawful_z done none = weaker_told v.content (λ _. (c : Contents) → IsAll c → Opened c)

@@ -23,7 +23,7 @@ use jnl_file::Journal;
 use region_journals::{RegionJournal, RegionJournals};
 use repl_disk::Disk;
 use site_files::{cut_off, draw_next, generation_in, write_lost};
-use site_store::OpenSite;
+use site_store::Memory;
 use std::alloc::Global;
 
 /// Writes down what is broken behind a site's entries, draws the next generation with a CUT of all of them, and writes the extract of
@@ -82,7 +82,7 @@ pub(crate) fn begin_kept<D: Disk>(
     disk: &mut D,
     instance: Instance,
     kept: Kept,
-) -> Result<OpenSite, RollError>
+) -> Result<Memory, RollError>
     requires ready { instances.IsReady (D.disk disk.old) instance }
     requires form { MayBeOpened instance.records (last_of kept.last_began.items) }
     requires counted { length kept.last_began.items ≡ length (regions instance.records) }
@@ -114,7 +114,7 @@ pub(crate) fn begin_kept<D: Disk>(
         Ok(drawn) => drawn,
         Err(error) => return Err(in_files(error)),
     };
-    Ok(OpenSite {
+    Ok(Memory {
         instance: drawn.instance,
         layout,
         journals: newest_journals(alloc, drawn.journals)?,

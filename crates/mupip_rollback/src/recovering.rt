@@ -23,11 +23,11 @@ ghost use Rattle.mupip_rollback.specs.Rolling.{StandsFor, MayBeRecovered, MayBeR
 
 use super::error::{RollError, in_site};
 use repl_disk::Disk;
-use site_store::{OpenSite, load, load_anew};
+use site_store::{Memory, open_as};
 use std::alloc::Global;
 
 /// Closes a site that was just opened with an epoch of all entries. Answers how many there are.
-fn close<D: Disk>(alloc: Global, disk: &mut D, mut site: OpenSite) -> Result<u64, RollError>
+fn close<D: Disk>(alloc: Global, disk: &mut D, mut site: Memory) -> Result<u64, RollError>
     requires ready { IsReady (D.disk disk.old) site }
     ensures length { IfOk result (λ n. n ≡ count_of site) }
     ensures done { IfOk result (λ _. (c : Contents) → IsOpen (D.disk disk.old) true c (length c.sequence) site → StandsFor (D.disk disk.new) (marked c)) }
@@ -40,7 +40,7 @@ fn close<D: Disk>(alloc: Global, disk: &mut D, mut site: OpenSite) -> Result<u64
     ensures causes { OnErr result (((fault : ℕ) × IsErrOf result (RollError.Failed fault)) ⊎ IsErrOf result RollError.NoMemory) }
 {
     match site.epoch(alloc, disk, true) {
-        Ok(()) => Ok(site.sequence_length()),
+        Ok(()) => Ok(site.entries.len()),
         Err(error) => Err(in_site(error)),
     }
 }
@@ -75,7 +75,7 @@ pub fn recover_backward<D: Disk>(alloc: Global, disk: &mut D) -> Result<u64, Rol
     ensures simulated { (D.disk disk.new).simulated ≡ (D.disk disk.old).simulated }
     ensures faults { MayFail (D.disk disk.old).faults (D.disk disk.new).faults (λ fault. IsErrOf result (RollError.Failed fault)) }
 {
-    match load(alloc, disk) {
+    match open_as(alloc, disk, false) {
         Ok(site) => close(alloc, disk, site),
         Err(error) => Err(in_site(error)),
     }
@@ -111,7 +111,7 @@ pub fn recover_forward<D: Disk>(alloc: Global, disk: &mut D) -> Result<u64, Roll
     ensures simulated { (D.disk disk.new).simulated ≡ (D.disk disk.old).simulated }
     ensures faults { MayFail (D.disk disk.old).faults (D.disk disk.new).faults (λ fault. IsErrOf result (RollError.Failed fault)) }
 {
-    match load_anew(alloc, disk) {
+    match open_as(alloc, disk, true) {
         Ok(site) => close(alloc, disk, site),
         Err(error) => Err(in_site(error)),
     }

@@ -13,23 +13,27 @@ use Rattle.global_defs.specs.Serial.{Turn, Reply, Replied, Seq, Read, RolledBack
 use Rattle.site_defs.specs.Contents.{Contents, NO_LEFTOVER, bare}
 use Rattle.site_defs.specs.Fronts.{with_sequence, IsFrontOf}
 use Rattle.site_defs.specs.Stands.{IsSite, HasLeft}
-use Rattle.site_store.specs.declared.site.OpenSite.{OpenSite}
+use Rattle.site_store.specs.declared.site.Site.{Site}
 use Rattle.site_store.specs.Site.{IsOpen, HasReign, with_entry, count_of}
 use Rattle.repl_section.specs.declared.reign.Reign.{Reign}
 use Rattle.repl_section.specs.Replies.{named}
 use Rattle.repl_section.specs.Reigns.{stamp_in, stamp_of}
-use Rattle.repl_section.proofs.Standing.{entries_counted}
+use Rattle.repl_section.proofs.Standing.{entries_counted, stays_at}
 use Rattle.repl_section.specs.Deciding.{outcome, ComesTo, Appends, StandsAt, MayHave, LeavesPick}
+use Rattle.site_store.specs.Owning.{disk_of, memory_of}
 
 -- next serials are no part of what a site has
-other_serials : (v : View) (told : Bool) (c : Contents) (h : ℕ) (r : Reign) (s : Reign) → s ≡ record r { serials = s.serials } → IsOpen v told c h r.site → IsOpen v told c h s.site
-other_serials v told c h r s e is = subst (λ (x : OpenSite). IsOpen v told c h x) (sym (ap (λ (x : Reign). x.site) e)) is
+other_serials : {D : Type 0} (view : D → View) (told : Bool) (c : Contents) (h : ℕ) (r s : Reign D) → s ≡ record r { serials = s.serials } → IsOpen (view (disk_of r.site)) told c h (memory_of r.site) → IsOpen (view (disk_of s.site)) told c h (memory_of s.site)
+other_serials {D = D} view told c h r s e is = subst (λ (x : Site D). IsOpen (view (disk_of x)) told c h (memory_of x)) (sym (ap (λ (x : Reign D). x.site) e)) is
 
-pub has_decided : (v : View) (told : Bool) (c : Contents) (h : ℕ) (seq : Sequence) (serials : List ℕ) (u serial : ℕ) (x : Reply) (r s : Reign) (d : Replied)
-    → IsOpen v told (with_sequence c seq) h r.site → s ≡ record r { serials = s.serials } → r.serials ≡ serials → serial ≡ serial_at serials u → s.serials ≡ set r.serials (u - 1) (serial + 1)
-    → d ≡ record { updater = u; serial = serial; reply = x } → ComesTo v told c h (replied (begun serials [] c.sequence) u x seq) s d
-has_decided v told c h seq serials u serial x r s d is same old at raised decision = record {
-  open_site = other_serials v told (with_sequence c seq) h r s same is;
+pub stays_with : {D : Type 0} (view : D → View) (c : Contents) (h : ℕ) (r s : Reign D) → s ≡ record r { serials = s.serials } → IsOpen (view (disk_of r.site)) true c h (memory_of r.site) → StandsAt (view (disk_of s.site)) c h
+stays_with view c h r s e is = stays_at (view (disk_of s.site)) c h (memory_of s.site) (other_serials view true c h r s e is)
+
+pub has_decided : {D : Type 0} (view : D → View) (told : Bool) (c : Contents) (h : ℕ) (seq : Sequence) (serials : List ℕ) (u serial : ℕ) (x : Reply) (r s : Reign D) (d : Replied)
+    → IsOpen (view (disk_of r.site)) told (with_sequence c seq) h (memory_of r.site) → s ≡ record r { serials = s.serials } → r.serials ≡ serials → serial ≡ serial_at serials u → s.serials ≡ set r.serials (u - 1) (serial + 1)
+    → d ≡ record { updater = u; serial = serial; reply = x } → ComesTo (view (disk_of s.site)) told c h (replied (begun serials [] c.sequence) u x seq) s d
+has_decided view told c h seq serials u serial x r s d is same old at raised decision = record {
+  open_site = other_serials view told (with_sequence c seq) h r s same is;
   serials = raised ∙ ap (λ (l : List ℕ). set l (u - 1) (serial + 1)) old ∙ ap (λ (n : ℕ). set serials (u - 1) (n + 1)) at;
   reply = ap (λ (n : ℕ). record { updater = u; serial = n; reply = x } ∷ []) (sym at) ∙ ap (λ (y : Replied). y ∷ []) (sym decision);
 }
@@ -100,11 +104,11 @@ pub with_it_perhaps : (w : View) (c : Contents) (e : Entry) → IsSome w.content
 with_it_perhaps w c e told fronts = record { told = told; images = λ f i. let front = fronts f i in with_it_or_not f c front.0 e front.1 front.2 }
 
 -- what the committed job comes to
-pub committed : (stamp : Stamp) (r : Reign) (seq : Sequence) (u : ℕ) (us : List Update) (answers : Answers) → count_of r.site ≡ length seq → 1 ≤ length us → count_of r.site + 1 < 2 ^ 40
+pub committed : {D : Type 0} → (stamp : Stamp) (r : Reign D) (seq : Sequence) (u : ℕ) (us : List Update) (answers : Answers) → count_of (memory_of r.site) ≡ length seq → 1 ≤ length us → count_of (memory_of r.site) + 1 < 2 ^ 40
     → outcome stamp r.serials seq u (Done us answers) ≡ replied (begun r.serials [] seq) u (Seq (length seq + 1) answers) (seq ++ entry_of stamp u (serial_at r.serials u) us ∷ [])
 committed stamp r seq u us answers h some room = appended_is stamp r.serials seq u us answers some (omega (arith, h, room))
 
-pub commit_appends : (stamp : Stamp) (r : Reign) (seq : Sequence) (u : ℕ) (us : List Update) (answers : Answers) → count_of r.site ≡ length seq → 1 ≤ length us → count_of r.site + 1 < 2 ^ 40 → Appends seq (outcome stamp r.serials seq u (Done us answers))
+pub commit_appends : {D : Type 0} → (stamp : Stamp) (r : Reign D) (seq : Sequence) (u : ℕ) (us : List Update) (answers : Answers) → count_of (memory_of r.site) ≡ length seq → 1 ≤ length us → count_of (memory_of r.site) + 1 < 2 ^ 40 → Appends seq (outcome stamp r.serials seq u (Done us answers))
 commit_appends stamp r seq u us answers h some room = subst (Appends seq) (sym (committed stamp r seq u us answers h some room)) (record {
   entry = entry_of stamp u (serial_at r.serials u) us;
   sequence = refl;
@@ -113,30 +117,30 @@ commit_appends stamp r seq u us answers h some room = subst (Appends seq) (sym (
   names = lt-ltb (length seq) (length seq + 1) (omega arith);
 })
 
-pub commit_done : (w : View) (told : Bool) (c : Contents) (h : ℕ) (v : View) (r m s : Reign) (u serial number : ℕ) (us : List Update) (answers : Answers) (d : Replied)
-    → IsOpen v told c h r.site → HasReign r.site → 1 ≤ length us → count_of r.site + 1 < 2 ^ 40 → serial ≡ serial_at r.serials u → number ≡ count_of r.site + 1
-    → IsOpen w told (with_entry r.site.stamp (record { origin = record { updater = u; serial = serial }; updates = us }) c) h m.site → m.serials ≡ r.serials
+pub commit_done : {D : Type 0} (view : D → View) (told : Bool) (c : Contents) (h : ℕ) (r m s : Reign D) (u serial number : ℕ) (us : List Update) (answers : Answers) (d : Replied)
+    → IsOpen (view (disk_of r.site)) told c h (memory_of r.site) → HasReign (memory_of r.site) → 1 ≤ length us → count_of (memory_of r.site) + 1 < 2 ^ 40 → serial ≡ serial_at r.serials u → number ≡ count_of (memory_of r.site) + 1
+    → IsOpen (view (disk_of m.site)) told (with_entry (memory_of r.site).stamp (record { origin = record { updater = u; serial = serial }; updates = us }) c) h (memory_of m.site) → m.serials ≡ r.serials
     → s ≡ record m { serials = s.serials } → s.serials ≡ set m.serials (u - 1) (serial + 1) → d ≡ record { updater = u; serial = serial; reply = Seq number answers }
-    → ComesTo w told c h (outcome (stamp_of r) r.serials c.sequence u (Done us answers)) s d
-commit_done w told c h v r m s u serial number us answers d was reign some room at is entered kept same raised decision =
+    → ComesTo (view (disk_of s.site)) told c h (outcome (stamp_of r) r.serials c.sequence u (Done us answers)) s d
+commit_done view told c h r m s u serial number us answers d was reign some room at is entered kept same raised decision =
     let stamp = stamp_of r in
     let seq = c.sequence ++ entry_of stamp u serial us ∷ [] in
-    let n : count_of r.site ≡ length c.sequence = entries_counted v told c h r.site was in
-    let there : IsOpen w told (with_sequence c seq) h m.site =
-    subst (λ (x : Contents). IsOpen w told x h m.site) (entry_under r.site.stamp reign.stamp (record { origin = record { updater = u; serial = serial }; updates = us }) c reign.is) entered in
+    let n : count_of (memory_of r.site) ≡ length c.sequence = entries_counted (view (disk_of r.site)) told c h (memory_of r.site) was in
+    let there : IsOpen (view (disk_of m.site)) told (with_sequence c seq) h (memory_of m.site) =
+    subst (λ (x : Contents). IsOpen (view (disk_of m.site)) told x h (memory_of m.site)) (entry_under (memory_of r.site).stamp reign.stamp (record { origin = record { updater = u; serial = serial }; updates = us }) c reign.is) entered in
     let number_is : number ≡ length c.sequence + 1 = is ∙ ap (λ (k : ℕ). k + 1) n in
     let e : replied (begun r.serials [] c.sequence) u (Seq (length c.sequence + 1) answers) seq ≡ outcome stamp r.serials c.sequence u (Done us answers) =
     ap (λ (k : ℕ). replied (begun r.serials [] c.sequence) u (Seq (length c.sequence + 1) answers) (c.sequence ++ entry_of stamp u k us ∷ [])) at ∙ sym (committed stamp r c.sequence u us answers n some room) in
-    subst (λ (t : Turn). ComesTo w told c h t s d) e
-    (has_decided w told c h seq r.serials u serial (Seq (length c.sequence + 1) answers) m s d there same kept at raised
+    subst (λ (t : Turn). ComesTo (view (disk_of s.site)) told c h t s d) e
+    (has_decided view told c h seq r.serials u serial (Seq (length c.sequence + 1) answers) m s d there same kept at raised
     (decision ∙ ap (λ (k : ℕ). record { updater = u; serial = serial; reply = Seq k answers }) number_is))
 
 -- and the reply names no entry past the last one
-pub commit_entered : (r m s : Reign) (u serial number : ℕ) (answers : Answers) (d : Replied) → number ≡ count_of r.site + 1 → count_of m.site ≡ count_of r.site + 1
-    → s ≡ record m { serials = s.serials } → d ≡ record { updater = u; serial = serial; reply = Seq number answers } → IfSome (named d.reply) (λ n. n ≤ count_of s.site)
-commit_entered r m s u serial number answers d is grown same decision =
-    let count : count_of s.site ≡ count_of m.site = ap (λ (x : Reign). count_of x.site) same in
-    subst (λ (y : Replied). IfSome (named y.reply) (λ n. n ≤ count_of s.site)) (sym decision) (omega (arith, is, grown, count))
+pub commit_entered : {D : Type 0} → (r m s : Reign D) (u serial number : ℕ) (answers : Answers) (d : Replied) → number ≡ count_of (memory_of r.site) + 1 → count_of (memory_of m.site) ≡ count_of (memory_of r.site) + 1
+    → s ≡ record m { serials = s.serials } → d ≡ record { updater = u; serial = serial; reply = Seq number answers } → IfSome (named d.reply) (λ n. n ≤ count_of (memory_of s.site))
+commit_entered {D = D} r m s u serial number answers d is grown same decision =
+    let count : count_of (memory_of s.site) ≡ count_of (memory_of m.site) = ap (λ (x : Reign D). count_of (memory_of x.site)) same in
+    subst (λ (y : Replied). IfSome (named y.reply) (λ n. n ≤ count_of (memory_of s.site))) (sym decision) (omega (arith, is, grown, count))
 
 pub unnamed_entered : (d : Replied) (count : ℕ) → named d.reply ≡ None → IfSome (named d.reply) (λ n. n ≤ count)
 unnamed_entered d count none = subst (λ (o : Option ℕ). IfSome o (λ n. n ≤ count)) (sym none) _

@@ -13,13 +13,14 @@ use Rattle.site_defs.specs.Behind.{IsFrontLeft, IsSiteWith}
 use Rattle.site_defs.specs.Fronts.{with_sequence, IsFrontOf}
 use Rattle.site_defs.specs.Stands.{IsSite}
 use Rattle.site_defs.specs.Texts.{is_past}
-use Rattle.site_store.specs.declared.site.OpenSite.{OpenSite}
+use Rattle.site_store.specs.declared.memory.Memory.{Memory}
 use Rattle.site_store.specs.Site.{IsOpen}
 use Rattle.repl_section.specs.declared.reign.Reign.{Reign}
 use Rattle.repl_section.specs.Replies.{named}
 use Rattle.repl_section.specs.Deciding.{outcome, hardened_for, ComesTo, HasCome, Appends, StandsAt, MayHave, LeavesPick}
 use Rattle.repl_section.proofs.Standing.{stays_at}
 use Rattle.repl_section.proofs.Replied.{still_may_have, still_leaves, with_it_perhaps}
+use Rattle.site_store.specs.Owning.{memory_of}
 
 -- a turn whose reply names no entry, and that appended none
 pub record Quiet (seq : Sequence) (t : Turn) : Type 0 where
@@ -79,16 +80,16 @@ all_hardened c t d (inr a) e = by_name (named d.reply) (named_is c.sequence t d 
     by_name None h = absurd (cc h)
     by_name (Some n) h = refl
 
-pub settled : (v w : View) (told : Bool) (c : Contents) (t : Turn) (d : Replied) (m r : Reign) (gave : List Replied → Type 0) → Either c.sequence t → ComesTo v told c (length c.sequence) t m d
-    → IsOpen w told (with_sequence c t.sequence) (hardened_for (named d.reply) (with_sequence c t.sequence) (length c.sequence)) r.site → r.serials ≡ m.serials → gave (d ∷ []) → HasCome w told c t r gave
+pub settled : {D : Type 0} → (v w : View) (told : Bool) (c : Contents) (t : Turn) (d : Replied) (m r : Reign D) (gave : List Replied → Type 0) → Either c.sequence t → ComesTo v told c (length c.sequence) t m d
+    → IsOpen w told (with_sequence c t.sequence) (hardened_for (named d.reply) (with_sequence c t.sequence) (length c.sequence)) (memory_of r.site) → r.serials ≡ m.serials → gave (d ∷ []) → HasCome w told c t r gave
 settled v w told c t d m r gave either comes is kept given = record {
-  reigns = subst (λ (h : ℕ). IsOpen w told (with_sequence c t.sequence) h r.site) (all_hardened c t d either comes.reply) is;
+  reigns = subst (λ (h : ℕ). IsOpen w told (with_sequence c t.sequence) h (memory_of r.site)) (all_hardened c t d either comes.reply) is;
   serials = kept ∙ comes.serials;
   given = subst gave (sym comes.reply) given;
 }
 
 -- where a reply names no entry, nothing was hardened
-pub stands_quietly : (w : View) (c : Contents) (t : Turn) (d : Replied) (s : OpenSite) → IsOpen w true (with_sequence c t.sequence) (hardened_for (named d.reply) (with_sequence c t.sequence) (length c.sequence)) s
+pub stands_quietly : (w : View) (c : Contents) (t : Turn) (d : Replied) (s : Memory) → IsOpen w true (with_sequence c t.sequence) (hardened_for (named d.reply) (with_sequence c t.sequence) (length c.sequence)) s
     → named d.reply ≡ None → StandsAt w (with_sequence c t.sequence) (length c.sequence)
 stands_quietly w c t d s is none =
     stays_at w (with_sequence c t.sequence) (length c.sequence) s (subst (λ (o : Option ℕ). IsOpen w true (with_sequence c t.sequence) (hardened_for o (with_sequence c t.sequence) (length c.sequence)) s) none is)

@@ -20,6 +20,7 @@ use Rattle.repl_section.specs.declared.reign.Reign.{Reign}
 use Rattle.repl_section.specs.Reigns.{stamp_in, stamp_of}
 use Rattle.repl_section.specs.Deciding.{outcome, HasCome, Appends, MayHave, HasReached, MayHaveFront, FailsBy, FailsAt, FailsIn, LeftAfter, MayLeave, StandsLeft, LeavesPick}
 use Rattle.region_store.specs.Joined.{joined}
+use Rattle.site_store.specs.Owning.{memory_of}
 
 -- a turn with one more pick
 abbrev pub with_pick : Turn → ℕ → Turn → Turn
@@ -120,14 +121,14 @@ turn_more stamp serials now jobs left picks u job seq g l j s e =
     ∙ ap (λ (x : List ℕ). with_pick t u (outcome stamp x t.sequence u (eval job g))) (sym s)
 
 -- a section on its way: these jobs are left, so many picks of all have no reply, and the reign is still under that stamp
-pub record HasGone (v : View) (stamp : Stamp) (told : Bool) (c : Contents) (t : Turn) (jobs : List (List Job)) (undecided all : ℕ) (r : Reign) (gave : List Replied → Type 0) : Type 0 where
+pub record HasGone {D : Type 0} (v : View) (stamp : Stamp) (told : Bool) (c : Contents) (t : Turn) (jobs : List (List Job)) (undecided all : ℕ) (r : Reign D) (gave : List Replied → Type 0) : Type 0 where
   pub left : jobs ≡ t.left
   pub under : stamp_of r ≡ stamp
   pub count : undecided + length t.replies ≡ all
   pub reached : HasReached v told c t r gave
 
-one_gone : (v w : View) (stamp : Stamp) (told : Bool) (c : Contents) (t p : Turn) (u : ℕ) (left : List (List Job)) (undecided all : ℕ) (r1 r2 : Reign) (before here after : List Replied → Type 0)
-    → HasGone v stamp told c t left (undecided + 1) all r1 before → IsPick t.sequence p → HasCome w told (with_sequence c t.sequence) p r2 here → r2.site.stamp ≡ r1.site.stamp
+one_gone : {D : Type 0} → (v w : View) (stamp : Stamp) (told : Bool) (c : Contents) (t p : Turn) (u : ℕ) (left : List (List Job)) (undecided all : ℕ) (r1 r2 : Reign D) (before here after : List Replied → Type 0)
+    → HasGone v stamp told c t left (undecided + 1) all r1 before → IsPick t.sequence p → HasCome w told (with_sequence c t.sequence) p r2 here → (memory_of r2.site).stamp ≡ (memory_of r1.site).stamp
     → ((xs ys : List Replied) → before xs → here ys → after (xs ++ ys)) → HasGone w stamp told c (with_pick t u p) (without_next u left) undecided all r2 after
 one_gone v w stamp told c t p u left undecided all r1 r2 before here after h k s same further = record {
   left = ap (without_next u) h.left;
@@ -165,7 +166,7 @@ failed_front w told c seq p a may = record { told = λ k. (may k).told; images =
     by_image files (inl s) = (with_sequence c seq, old_front seq p c a, s)
     by_image files (inr s) = (with_sequence c p.sequence, all_front p.sequence c (length seq) (omega (arith, ap (λ (x : Sequence). length x) a.sequence, longer seq a.entry)), s)
 
-failed_by : (v w : View) (stamp : Stamp) (told : Bool) (c : Contents) (t p : Turn) (u : ℕ) (left : List (List Job)) (undecided all : ℕ) (r1 : Reign) (gave : List Replied → Type 0)
+failed_by : {D : Type 0} → (v w : View) (stamp : Stamp) (told : Bool) (c : Contents) (t p : Turn) (u : ℕ) (left : List (List Job)) (undecided all : ℕ) (r1 : Reign D) (gave : List Replied → Type 0)
     → HasGone v stamp told c t left undecided all r1 gave → Appends t.sequence p → (IsTrue told → MayHave w (with_sequence c t.sequence) p.sequence)
     → FailsBy w told c (with_pick t u p) all undecided gave
 failed_by v w stamp told c t p u left undecided all r1 gave h a may =
@@ -186,31 +187,31 @@ front_more order i u h e = take_more order i 0 h ∙ ap (λ (x : ℕ). take i or
 abbrev pub come_to : Stamp → List ℕ → List (List Job) → List ℕ → ℕ → Sequence → Turn
 come_to stamp serials jobs order i seq = turn_of stamp serials jobs (take i order) seq
 
-abbrev pub pick_at : Stamp → List ℕ → List (List Job) → List ℕ → ℕ → Contents → Reign → ℕ → Job → Turn
-pick_at stamp serials jobs order i c r u job = outcome (stamp_of r) r.serials (come_to stamp serials jobs order i c.sequence).sequence u (eval job (joined r.site.globals))
+abbrev pub pick_at : {D : Type 0} → Stamp → List ℕ → List (List Job) → List ℕ → ℕ → Contents → Reign D → ℕ → Job → Turn
+pick_at stamp serials jobs order i c r u job = outcome (stamp_of r) r.serials (come_to stamp serials jobs order i c.sequence).sequence u (eval job (joined (memory_of r.site).globals))
 
-next_turn : (v : View) (stamp : Stamp) (told : Bool) (c : Contents) (serials : List ℕ) (jobs left : List (List Job)) (order : List ℕ) (i u : ℕ) (job : Job) (undecided : ℕ) (r1 : Reign) (gave : List Replied → Type 0)
+next_turn : {D : Type 0} → (v : View) (stamp : Stamp) (told : Bool) (c : Contents) (serials : List ℕ) (jobs left : List (List Job)) (order : List ℕ) (i u : ℕ) (job : Job) (undecided : ℕ) (r1 : Reign D) (gave : List Replied → Type 0)
     → HasGone v stamp told c (come_to stamp serials jobs order i c.sequence) left undecided (length order) r1 gave → i < length order → u ≡ get_or order i 0 → next_job u left ≡ Some job
     → come_to stamp serials jobs order (i + 1) c.sequence ≡ with_pick (come_to stamp serials jobs order i c.sequence) u (pick_at stamp serials jobs order i c r1 u job)
 next_turn v stamp told c serials jobs left order i u job undecided r1 gave h inside is next =
     ap (λ (x : List ℕ). turn_of stamp serials jobs x c.sequence) (front_more order i u inside is)
-    ∙ turn_more stamp serials r1.serials jobs left (take i order) u job c.sequence (joined r1.site.globals) h.left next h.reached.serials h.reached.reigns.remembered.globals
-    ∙ ap (λ (x : Stamp). with_pick (come_to stamp serials jobs order i c.sequence) u (outcome x r1.serials (come_to stamp serials jobs order i c.sequence).sequence u (eval job (joined r1.site.globals)))) (sym h.under)
+    ∙ turn_more stamp serials r1.serials jobs left (take i order) u job c.sequence (joined (memory_of r1.site).globals) h.left next h.reached.serials h.reached.reigns.remembered.globals
+    ∙ ap (λ (x : Stamp). with_pick (come_to stamp serials jobs order i c.sequence) u (outcome x r1.serials (come_to stamp serials jobs order i c.sequence).sequence u (eval job (joined (memory_of r1.site).globals)))) (sym h.under)
 
 -- the pick was decided
-pub one_decided : (v w : View) (stamp : Stamp) (told : Bool) (c : Contents) (serials : List ℕ) (jobs left : List (List Job)) (order : List ℕ) (i u : ℕ) (job : Job) (undecided : ℕ) (r1 r2 : Reign) (before here after : List Replied → Type 0)
+pub one_decided : {D : Type 0} → (v w : View) (stamp : Stamp) (told : Bool) (c : Contents) (serials : List ℕ) (jobs left : List (List Job)) (order : List ℕ) (i u : ℕ) (job : Job) (undecided : ℕ) (r1 r2 : Reign D) (before here after : List Replied → Type 0)
     → HasGone v stamp told c (come_to stamp serials jobs order i c.sequence) left (undecided + 1) (length order) r1 before → i < length order → u ≡ get_or order i 0 → next_job u left ≡ Some job
-    → HasCome w told (with_sequence c (come_to stamp serials jobs order i c.sequence).sequence) (pick_at stamp serials jobs order i c r1 u job) r2 here → r2.site.stamp ≡ r1.site.stamp
+    → HasCome w told (with_sequence c (come_to stamp serials jobs order i c.sequence).sequence) (pick_at stamp serials jobs order i c r1 u job) r2 here → (memory_of r2.site).stamp ≡ (memory_of r1.site).stamp
     → ((xs ys : List Replied) → before xs → here ys → after (xs ++ ys))
     → HasGone w stamp told c (come_to stamp serials jobs order (i + 1) c.sequence) (without_next u left) undecided (length order) r2 after
 one_decided v w stamp told c serials jobs left order i u job undecided r1 r2 before here after h inside is next s same further =
     let t = come_to stamp serials jobs order i c.sequence in
     let p = pick_at stamp serials jobs order i c r1 u job in
     subst (λ (x : Turn). HasGone w stamp told c x (without_next u left) undecided (length order) r2 after) (sym (next_turn v stamp told c serials jobs left order i u job (undecided + 1) r1 before h inside is next))
-    (one_gone v w stamp told c t p u left undecided (length order) r1 r2 before here after h (is_pick (stamp_of r1) r1.serials t.sequence u (eval job (joined r1.site.globals))) s same further)
+    (one_gone v w stamp told c t p u left undecided (length order) r1 r2 before here after h (is_pick (stamp_of r1) r1.serials t.sequence u (eval job (joined (memory_of r1.site).globals))) s same further)
 
 -- the updater had no job
-pub none_decided : (v : View) (stamp : Stamp) (told : Bool) (c : Contents) (serials : List ℕ) (jobs left : List (List Job)) (order : List ℕ) (i u : ℕ) (undecided : ℕ) (r1 : Reign) (gave : List Replied → Type 0)
+pub none_decided : {D : Type 0} → (v : View) (stamp : Stamp) (told : Bool) (c : Contents) (serials : List ℕ) (jobs left : List (List Job)) (order : List ℕ) (i u : ℕ) (undecided : ℕ) (r1 : Reign D) (gave : List Replied → Type 0)
     → HasGone v stamp told c (come_to stamp serials jobs order i c.sequence) left undecided (length order) r1 gave → i < length order → u ≡ get_or order i 0 → next_job u left ≡ None
     → HasGone v stamp told c (come_to stamp serials jobs order (i + 1) c.sequence) (without_next u left) undecided (length order) r1 gave
 none_decided v stamp told c serials jobs left order i u undecided r1 gave h inside is none =
@@ -221,7 +222,7 @@ none_decided v stamp told c serials jobs left order i u undecided r1 gave h insi
     (subst (λ (x : List (List Job)). HasGone v stamp told c t x undecided (length order) r1 gave) (sym (none_taken u left none)) h)
 
 -- the pick failed
-pub failed_at : (v w : View) (stamp : Stamp) (told : Bool) (c : Contents) (serials : List ℕ) (jobs left : List (List Job)) (order : List ℕ) (i u : ℕ) (job : Job) (undecided : ℕ) (r1 : Reign) (gave : List Replied → Type 0)
+pub failed_at : {D : Type 0} → (v w : View) (stamp : Stamp) (told : Bool) (c : Contents) (serials : List ℕ) (jobs left : List (List Job)) (order : List ℕ) (i u : ℕ) (job : Job) (undecided : ℕ) (r1 : Reign D) (gave : List Replied → Type 0)
     → HasGone v stamp told c (come_to stamp serials jobs order i c.sequence) left undecided (length order) r1 gave → i < length order → u ≡ get_or order i 0 → next_job u left ≡ Some job
     → Appends (come_to stamp serials jobs order i c.sequence).sequence (pick_at stamp serials jobs order i c r1 u job)
     → (IsTrue told → MayHave w (with_sequence c (come_to stamp serials jobs order i c.sequence).sequence) (pick_at stamp serials jobs order i c r1 u job).sequence)
@@ -231,7 +232,7 @@ failed_at v w stamp told c serials jobs left order i u job undecided r1 gave h i
     (failed_by v w stamp told c (come_to stamp serials jobs order i c.sequence) (pick_at stamp serials jobs order i c r1 u job) u left undecided (length order) r1 gave h a may)
 
 -- what it left, with what lies behind that
-left_after : (v : View) (stamp : Stamp) (told : Bool) (c : Contents) (serials : List ℕ) (jobs left : List (List Job)) (order : List ℕ) (i u : ℕ) (job : Job) (undecided : ℕ) (r1 : Reign) (gave : List Replied → Type 0)
+left_after : {D : Type 0} → (v : View) (stamp : Stamp) (told : Bool) (c : Contents) (serials : List ℕ) (jobs left : List (List Job)) (order : List ℕ) (i u : ℕ) (job : Job) (undecided : ℕ) (r1 : Reign D) (gave : List Replied → Type 0)
     → HasGone v stamp told c (come_to stamp serials jobs order i c.sequence) left undecided (length order) r1 gave → i < length order → u ≡ get_or order i 0 → next_job u left ≡ Some job
     → (files : Files) → StandsLeft (with_sequence c (come_to stamp serials jobs order i c.sequence).sequence) (pick_at stamp serials jobs order i c r1 u job).sequence files → LeftAfter stamp c jobs order serials i files
 left_after v stamp told c serials jobs left order i u job undecided r1 gave h inside is next files q =
@@ -244,7 +245,7 @@ left_after v stamp told c serials jobs left order i u job undecided r1 gave h in
     }
 
 -- and the picks before it have their replies
-pub failed_in : (v w : View) (stamp : Stamp) (told : Bool) (c : Contents) (serials : List ℕ) (jobs left : List (List Job)) (order : List ℕ) (i u : ℕ) (job : Job) (undecided : ℕ) (r1 : Reign) (gave : List Replied → Type 0)
+pub failed_in : {D : Type 0} → (v w : View) (stamp : Stamp) (told : Bool) (c : Contents) (serials : List ℕ) (jobs left : List (List Job)) (order : List ℕ) (i u : ℕ) (job : Job) (undecided : ℕ) (r1 : Reign D) (gave : List Replied → Type 0)
     → HasGone v stamp told c (come_to stamp serials jobs order i c.sequence) left undecided (length order) r1 gave → i < length order → u ≡ get_or order i 0 → next_job u left ≡ Some job
     → Appends (come_to stamp serials jobs order i c.sequence).sequence (pick_at stamp serials jobs order i c r1 u job)
     → (IsTrue told → MayHave w (with_sequence c (come_to stamp serials jobs order i c.sequence).sequence) (pick_at stamp serials jobs order i c r1 u job).sequence)
@@ -263,7 +264,7 @@ failed_in v w stamp told c serials jobs left order i u job undecided r1 gave h i
     }
 
 -- the pick was cut off
-pub left_at : (v w : View) (stamp : Stamp) (told : Bool) (c : Contents) (serials : List ℕ) (jobs left : List (List Job)) (order : List ℕ) (i u : ℕ) (job : Job) (undecided : ℕ) (r1 : Reign) (gave : List Replied → Type 0)
+pub left_at : {D : Type 0} → (v w : View) (stamp : Stamp) (told : Bool) (c : Contents) (serials : List ℕ) (jobs left : List (List Job)) (order : List ℕ) (i u : ℕ) (job : Job) (undecided : ℕ) (r1 : Reign D) (gave : List Replied → Type 0)
     → HasGone v stamp told c (come_to stamp serials jobs order i c.sequence) left undecided (length order) r1 gave → i < length order → u ≡ get_or order i 0 → next_job u left ≡ Some job
     → (IsTrue told → MayHave w (with_sequence c (come_to stamp serials jobs order i c.sequence).sequence) (pick_at stamp serials jobs order i c r1 u job).sequence)
     → (IsTrue told → LeavesPick w (with_sequence c (come_to stamp serials jobs order i c.sequence).sequence) (pick_at stamp serials jobs order i c r1 u job).sequence)
@@ -282,7 +283,7 @@ left_at v w stamp told c serials jobs left order i u job undecided r1 gave h ins
     by_image files (inr s) =
         let t = come_to stamp serials jobs order i c.sequence in
         let p = pick_at stamp serials jobs order i c r1 u job in
-        let more : length t.sequence ≤ length p.sequence = (is_pick (stamp_of r1) r1.serials t.sequence u (eval job (joined r1.site.globals))).grown in (
+        let more : length t.sequence ≤ length p.sequence = (is_pick (stamp_of r1) r1.serials t.sequence u (eval job (joined (memory_of r1.site).globals))).grown in (
           with_sequence c p.sequence,
           (
             i + 1,

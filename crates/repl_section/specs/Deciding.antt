@@ -11,6 +11,7 @@ use Rattle.site_defs.specs.Fronts.{with_sequence, IsFrontOf, turn_of}
 use Rattle.site_defs.specs.Stands.{IsSite, HasLeft}
 use Rattle.site_defs.specs.Behind.{MayStand, IsSiteWith}
 use Rattle.site_defs.specs.Texts.{is_past, printed}
+use Rattle.site_store.specs.Owning.{memory_of}
 use Rattle.site_store.specs.Site.{IsOpen, HasRoomFor}
 use Rattle.repl_section.specs.declared.reign.Reign.{Reign}
 use Rattle.repl_section.specs.declared.running.RunError.{RunError}
@@ -33,8 +34,8 @@ pub record StandsAt (v : View) (c : Contents) (hardened : ℕ) : Type 0 where
   pub bare : (files : Files) → Image v files → HasLeft files (with_sequence c (take hardened c.sequence)) NO_LEFTOVER
 
 -- A job was decided: the reign has come to this turn's entries, of which so many are hardened, and to its next serials. This is the turn's reply.
-pub record ComesTo (v : View) (told : Bool) (c : Contents) (hardened : ℕ) (t : Turn) (r : Reign) (decision : Replied) : Type 0 where
-  pub open_site : IsOpen v told (with_sequence c t.sequence) hardened r.site
+pub record ComesTo {D : Type 0} (v : View) (told : Bool) (c : Contents) (hardened : ℕ) (t : Turn) (r : Reign D) (decision : Replied) : Type 0 where
+  pub open_site : IsOpen v told (with_sequence c t.sequence) hardened (memory_of r.site)
   pub serials : r.serials ≡ t.serials
   pub reply : t.replies ≡ decision ∷ []
 
@@ -57,7 +58,7 @@ abbrev pub LeavesPick : View → Contents → (after : Sequence) → Type 0
 LeavesPick v c after = (files : Files) → Image v files → StandsLeft c after files
 
 -- A pick has come to this turn: the reign has its entries and its next serials, and its replies were given.
-pub record HasCome (v : View) (told : Bool) (c : Contents) (t : Turn) (r : Reign) (gave : List Replied → Type 0) : Type 0 where
+pub record HasCome {D : Type 0} (v : View) (told : Bool) (c : Contents) (t : Turn) (r : Reign D) (gave : List Replied → Type 0) : Type 0 where
   pub reigns : Reigns v told (with_sequence c t.sequence) r
   pub serials : r.serials ≡ t.serials
   pub given : gave t.replies
@@ -71,7 +72,7 @@ pub record Appends (seq : Sequence) (t : Turn) : Type 0 where
   pub names : is_past (length seq) reply.reply ≡ true
 
 -- A section has come to this turn: besides, there are no fewer entries, and each reply names one that is there or none.
-pub record HasReached (v : View) (told : Bool) (c : Contents) (t : Turn) (r : Reign) (gave : List Replied → Type 0) : Type 0 where
+pub record HasReached {D : Type 0} (v : View) (told : Bool) (c : Contents) (t : Turn) (r : Reign D) (gave : List Replied → Type 0) : Type 0 where
   pub reigns : Reigns v told (with_sequence c t.sequence) r
   pub serials : r.serials ≡ t.serials
   pub given : gave t.replies
@@ -79,7 +80,7 @@ pub record HasReached (v : View) (told : Bool) (c : Contents) (t : Turn) (r : Re
   pub printed : printed (length t.sequence) t.replies ≡ t.replies
 
 -- These picks were decided: entries, serials and replies are those of the serial run.
-abbrev pub HasDecided : View → Bool → Contents → List (List Job) → (picks : List ℕ) → Reign → Reign → (List Replied → Type 0) → Type 0
+abbrev pub HasDecided : {D : Type 0} → View → Bool → Contents → List (List Job) → (picks : List ℕ) → Reign D → Reign D → (List Replied → Type 0) → Type 0
 HasDecided v told c jobs picks old new gave = HasReached v told c (turn_of (stamp_of old) old.serials jobs picks c.sequence) new gave
 
 -- where files are known, each image stands for a front of this sequence that has at least so many entries

@@ -8,7 +8,8 @@ ghost use Rattle.global_defs.specs.Serial.{serial_at};
 ghost use Rattle.gvn_model.specs.Entries.{origin_value};
 ghost use Rattle.gvn_model.specs.Jobs.{job_value, evaluated_value};
 ghost use Rattle.site_defs.specs.Contents.{Contents};
-ghost use Rattle.site_store.specs.Site.{IsReady, IsOpen, HasReign, HasRoomFor, count_of};
+ghost use Rattle.site_store.specs.Site.{IsOpen, HasReign, HasRoomFor, count_of};
+ghost use Rattle.site_store.specs.Owning.{disk_of, memory_of, IsGoing};
 ghost use Rattle.repl_section.specs.Replies.{named, replied_value};
 ghost use Rattle.repl_section.specs.Reigns.{stamp_of};
 ghost use Rattle.repl_section.specs.Deciding.{outcome, FitsIn, ComesTo, Appends, StandsAt};
@@ -29,7 +30,7 @@ const LAST_UPDATER: u8 = 64;
 /// The number of the last entry that there may be.
 const LAST_NUMBER: u64 = 0xff_ffff_ffff;
 
-impl Reign {
+impl<D: Disk> Reign<D> {
     /// The origin of an updater's next job, where there is such an updater and such a serial.
     fn next_origin(&self, updater: u8) -> Option<Origin>
         ensures updater { IfSome result (λ o. o.updater ≡ updater) }
@@ -61,61 +62,53 @@ impl Reign {
     }
 
     /// Decides a job that makes these updates: makes them the next entry, which isn't hardened yet.
-    fn commit<D: Disk>(
+    fn commit(
         &mut self,
-        alloc: Global,
-        disk: &mut D,
         origin: Origin,
         updates: Updates,
         answers: Answers,
     ) -> Result<Decision, DecideError>
-        requires ready { IsReady (D.disk disk.old) self.old.site }
-        requires reign { HasReign self.old.site }
+        requires ready { IsGoing D.disk self.old.site }
+        requires reign { HasReign (memory_of self.old.site) }
         requires origin { IsOrigin (origin_value origin) }
         requires serial { origin.serial ≡ serial_at self.old.serials origin.updater }
         requires some { 1 ≤ length updates }
-        requires room { count_of self.old.site + 1 < 2 ^ 40 }
-        requires nodes { HasRoomFor (joined self.old.site.globals) updates }
-        ensures ready { OnOk result (IsReady (D.disk disk.new) self.new.site) }
-        ensures reign { OnOk result (HasReign self.new.site) }
-        ensures stamp { self.new.site.stamp ≡ self.old.site.stamp }
-        ensures done { IfOk result (λ decision. (told : Bool) (c : Contents) (h : ℕ) → IsOpen (D.disk disk.old) told c h self.old.site → ComesTo (D.disk disk.new) told c h (outcome (stamp_of self.old) self.old.serials c.sequence origin.updater (evaluation.Done updates answers)) self.new decision) }
-        ensures entered { IfOk result (λ decision. IfSome (named decision.reply) (λ number. number ≤ count_of self.new.site)) }
-        ensures grown { OnOk result (count_of self.old.site ≤ count_of self.new.site) }
-        ensures stands { (c : Contents) (h : ℕ) → IsOpen (D.disk disk.old) true c h self.old.site → StandsAt (D.disk disk.new) c h }
-        ensures simulated { (D.disk disk.new).simulated ≡ (D.disk disk.old).simulated }
-        ensures faults { MayFailUncounted (D.disk disk.old).faults (D.disk disk.new).faults (IsErrOf result DecideError.Failed) }
+        requires room { count_of (memory_of self.old.site) + 1 < 2 ^ 40 }
+        requires nodes { HasRoomFor (joined (memory_of self.old.site).globals) updates }
+        ensures ready { OnOk result (IsGoing D.disk self.new.site) }
+        ensures reign { OnOk result (HasReign (memory_of self.new.site)) }
+        ensures stamp { (memory_of self.new.site).stamp ≡ (memory_of self.old.site).stamp }
+        ensures done { IfOk result (λ decision. (told : Bool) (c : Contents) (h : ℕ) → IsOpen (D.disk (disk_of self.old.site)) told c h (memory_of self.old.site) → ComesTo (D.disk (disk_of self.new.site)) told c h (outcome (stamp_of self.old) self.old.serials c.sequence origin.updater (evaluation.Done updates answers)) self.new decision) }
+        ensures entered { IfOk result (λ decision. IfSome (named decision.reply) (λ number. number ≤ count_of (memory_of self.new.site))) }
+        ensures grown { OnOk result (count_of (memory_of self.old.site) ≤ count_of (memory_of self.new.site)) }
+        ensures stands { (c : Contents) (h : ℕ) → IsOpen (D.disk (disk_of self.old.site)) true c h (memory_of self.old.site) → StandsAt (D.disk (disk_of self.new.site)) c h }
+        ensures simulated { (D.disk (disk_of self.new.site)).simulated ≡ (D.disk (disk_of self.old.site)).simulated }
+        ensures faults { MayFailUncounted (D.disk (disk_of self.old.site)).faults (D.disk (disk_of self.new.site)).faults (IsErrOf result DecideError.Failed) }
     {
         if !all_fit(&updates) {
             return Err(DecideError::NoMemory);
         }
-        let number = self.enter(alloc, disk, Transaction { origin, updates })?;
+        let number = self.enter(Transaction { origin, updates })?;
         Ok(self.answer(origin, Reply::Seq(number, answers)))
     }
 
     /// Decides a job that was evaluated so on the site's globals.
-    fn conclude<D: Disk>(
-        &mut self,
-        alloc: Global,
-        disk: &mut D,
-        origin: Origin,
-        evaluated: Evaluated,
-    ) -> Result<Decision, DecideError>
-        requires ready { IsReady (D.disk disk.old) self.old.site }
-        requires reign { HasReign self.old.site }
+    fn conclude(&mut self, origin: Origin, evaluated: Evaluated) -> Result<Decision, DecideError>
+        requires ready { IsGoing D.disk self.old.site }
+        requires reign { HasReign (memory_of self.old.site) }
         requires origin { IsOrigin (origin_value origin) }
         requires serial { origin.serial ≡ serial_at self.old.serials origin.updater }
-        requires nodes { FitsIn (joined self.old.site.globals) (evaluated_value evaluated) }
-        ensures ready { OnOk result (IsReady (D.disk disk.new) self.new.site) }
-        ensures reign { OnOk result (HasReign self.new.site) }
-        ensures stamp { self.new.site.stamp ≡ self.old.site.stamp }
-        ensures done { IfOk result (λ decision. (told : Bool) (c : Contents) (h : ℕ) → IsOpen (D.disk disk.old) told c h self.old.site → ComesTo (D.disk disk.new) told c h (outcome (stamp_of self.old) self.old.serials c.sequence origin.updater (evaluated_value evaluated)) self.new decision) }
-        ensures entered { IfOk result (λ decision. IfSome (named decision.reply) (λ number. number ≤ count_of self.new.site)) }
-        ensures grown { OnOk result (count_of self.old.site ≤ count_of self.new.site) }
-        ensures appends { IsErrOf result DecideError.Failed → (told : Bool) (c : Contents) (h : ℕ) → IsOpen (D.disk disk.old) told c h self.old.site → Appends c.sequence (outcome (stamp_of self.old) self.old.serials c.sequence origin.updater (evaluated_value evaluated)) }
-        ensures stands { (c : Contents) (h : ℕ) → IsOpen (D.disk disk.old) true c h self.old.site → StandsAt (D.disk disk.new) c h }
-        ensures simulated { (D.disk disk.new).simulated ≡ (D.disk disk.old).simulated }
-        ensures faults { MayFailUncounted (D.disk disk.old).faults (D.disk disk.new).faults (IsErrOf result DecideError.Failed) }
+        requires nodes { FitsIn (joined (memory_of self.old.site).globals) (evaluated_value evaluated) }
+        ensures ready { OnOk result (IsGoing D.disk self.new.site) }
+        ensures reign { OnOk result (HasReign (memory_of self.new.site)) }
+        ensures stamp { (memory_of self.new.site).stamp ≡ (memory_of self.old.site).stamp }
+        ensures done { IfOk result (λ decision. (told : Bool) (c : Contents) (h : ℕ) → IsOpen (D.disk (disk_of self.old.site)) told c h (memory_of self.old.site) → ComesTo (D.disk (disk_of self.new.site)) told c h (outcome (stamp_of self.old) self.old.serials c.sequence origin.updater (evaluated_value evaluated)) self.new decision) }
+        ensures entered { IfOk result (λ decision. IfSome (named decision.reply) (λ number. number ≤ count_of (memory_of self.new.site))) }
+        ensures grown { OnOk result (count_of (memory_of self.old.site) ≤ count_of (memory_of self.new.site)) }
+        ensures appends { IsErrOf result DecideError.Failed → (told : Bool) (c : Contents) (h : ℕ) → IsOpen (D.disk (disk_of self.old.site)) told c h (memory_of self.old.site) → Appends c.sequence (outcome (stamp_of self.old) self.old.serials c.sequence origin.updater (evaluated_value evaluated)) }
+        ensures stands { (c : Contents) (h : ℕ) → IsOpen (D.disk (disk_of self.old.site)) true c h (memory_of self.old.site) → StandsAt (D.disk (disk_of self.new.site)) c h }
+        ensures simulated { (D.disk (disk_of self.new.site)).simulated ≡ (D.disk (disk_of self.old.site)).simulated }
+        ensures faults { MayFailUncounted (D.disk (disk_of self.old.site)).faults (D.disk (disk_of self.new.site)).faults (IsErrOf result DecideError.Failed) }
     {
         let reply = match evaluated {
             Evaluated::RolledBack(cause) => Reply::RolledBack(cause),
@@ -125,7 +118,7 @@ impl Reign {
                 } else if LAST_NUMBER <= self.site.sequence_length() {
                     Reply::RolledBack(Cause::SeqLimit)
                 } else {
-                    return self.commit(alloc, disk, origin, updates, answers);
+                    return self.commit(origin, updates, answers);
                 }
             }
         };
@@ -139,30 +132,24 @@ impl Reign {
     /// # Errors
     /// `Failed` only where the disk's count rose, and `NoMemory`. The reign is of no more use then; what was hardened stands, and
     /// nothing else.
-    pub fn decide<D: Disk>(
-        &mut self,
-        alloc: Global,
-        disk: &mut D,
-        updater: u8,
-        job: Job,
-    ) -> Result<Decision, DecideError>
-        requires ready { IsReady (D.disk disk.old) self.old.site }
-        requires reign { HasReign self.old.site }
-        ensures ready { OnOk result (IsReady (D.disk disk.new) self.new.site) }
-        ensures reign { OnOk result (HasReign self.new.site) }
-        ensures stamp { self.new.site.stamp ≡ self.old.site.stamp }
-        ensures done { IfOk result (λ decision. (told : Bool) (c : Contents) (h : ℕ) → IsOpen (D.disk disk.old) told c h self.old.site → ComesTo (D.disk disk.new) told c h (outcome (stamp_of self.old) self.old.serials c.sequence updater (eval (job_value job) (joined self.old.site.globals))) self.new decision) }
-        ensures entered { IfOk result (λ decision. IfSome (named decision.reply) (λ number. number ≤ count_of self.new.site)) }
-        ensures grown { OnOk result (count_of self.old.site ≤ count_of self.new.site) }
-        ensures appends { IsErrOf result DecideError.Failed → (told : Bool) (c : Contents) (h : ℕ) → IsOpen (D.disk disk.old) told c h self.old.site → Appends c.sequence (outcome (stamp_of self.old) self.old.serials c.sequence updater (eval (job_value job) (joined self.old.site.globals))) }
-        ensures stands { (c : Contents) (h : ℕ) → IsOpen (D.disk disk.old) true c h self.old.site → StandsAt (D.disk disk.new) c h }
-        ensures simulated { (D.disk disk.new).simulated ≡ (D.disk disk.old).simulated }
-        ensures faults { MayFailUncounted (D.disk disk.old).faults (D.disk disk.new).faults (IsErrOf result DecideError.Failed) }
+    pub fn decide(&mut self, alloc: Global, updater: u8, job: Job) -> Result<Decision, DecideError>
+        requires ready { IsGoing D.disk self.old.site }
+        requires reign { HasReign (memory_of self.old.site) }
+        ensures ready { OnOk result (IsGoing D.disk self.new.site) }
+        ensures reign { OnOk result (HasReign (memory_of self.new.site)) }
+        ensures stamp { (memory_of self.new.site).stamp ≡ (memory_of self.old.site).stamp }
+        ensures done { IfOk result (λ decision. (told : Bool) (c : Contents) (h : ℕ) → IsOpen (D.disk (disk_of self.old.site)) told c h (memory_of self.old.site) → ComesTo (D.disk (disk_of self.new.site)) told c h (outcome (stamp_of self.old) self.old.serials c.sequence updater (eval (job_value job) (joined (memory_of self.old.site).globals))) self.new decision) }
+        ensures entered { IfOk result (λ decision. IfSome (named decision.reply) (λ number. number ≤ count_of (memory_of self.new.site))) }
+        ensures grown { OnOk result (count_of (memory_of self.old.site) ≤ count_of (memory_of self.new.site)) }
+        ensures appends { IsErrOf result DecideError.Failed → (told : Bool) (c : Contents) (h : ℕ) → IsOpen (D.disk (disk_of self.old.site)) told c h (memory_of self.old.site) → Appends c.sequence (outcome (stamp_of self.old) self.old.serials c.sequence updater (eval (job_value job) (joined (memory_of self.old.site).globals))) }
+        ensures stands { (c : Contents) (h : ℕ) → IsOpen (D.disk (disk_of self.old.site)) true c h (memory_of self.old.site) → StandsAt (D.disk (disk_of self.new.site)) c h }
+        ensures simulated { (D.disk (disk_of self.new.site)).simulated ≡ (D.disk (disk_of self.old.site)).simulated }
+        ensures faults { MayFailUncounted (D.disk (disk_of self.old.site)).faults (D.disk (disk_of self.new.site)).faults (IsErrOf result DecideError.Failed) }
     {
         let Some(origin) = self.next_origin(updater) else {
             return Err(DecideError::NoMemory);
         };
-        let evaluated = eval_owned(alloc, job, origin, &self.site.globals)?;
-        self.conclude(alloc, disk, origin, evaluated)
+        let evaluated = eval_owned(alloc, job, origin, &self.site)?;
+        self.conclude(origin, evaluated)
     }
 }

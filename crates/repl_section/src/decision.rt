@@ -1,11 +1,13 @@
 //! What became of a job, before its updater is told.
 ghost use Rattle.std.specs.Prelude.{◌≡◌, ◌≤◌, [], ◌∷◌, IfSome, OnOk};
+ghost use Rattle.site_store.specs.Owning.{memory_of};
 ghost use Rattle.repl_section.specs.Replies.{named, replied_value};
 
 use crate::reign::Reign;
 use crate::sink::ReplySink;
 use gvn_key::NoMemory;
 use gvn_model::{Origin, Reply};
+use repl_disk::Disk;
 use std::marker::Model;
 
 /// A job that was decided, with the reply to it. Where its entry isn't hardened yet the reply has to wait.
@@ -43,10 +45,10 @@ impl Decision {
     }
 }
 
-impl Reign {
+impl<D: Disk> Reign<D> {
     /// Gives a decision's reply to its updater. The entry that it names, if it names one, has to be hardened.
     pub fn release<S: ReplySink>(&self, decision: Decision, sink: &mut S) -> Result<(), NoMemory>
-        requires hardened { IfSome (named decision.reply) (λ number. number ≤ self.now.site.hardened) }
+        requires hardened { IfSome (named decision.reply) (λ number. number ≤ (memory_of self.now.site).hardened) }
         ensures { OnOk result (S.gave sink.old sink.new (decision ∷ [])) }
     {
         sink.give(decision.origin, decision.reply)

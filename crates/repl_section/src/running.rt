@@ -3,7 +3,8 @@ ghost use Rattle.std.specs.Prelude.{◌≡◌, ◌≤◌, Bool, OnOk, IfErr};
 ghost use Rattle.disk_defs.specs.Disk.{Rose};
 ghost use Rattle.site_defs.specs.Contents.{Contents};
 ghost use Rattle.site_defs.specs.Fronts.{turn_of};
-ghost use Rattle.site_store.specs.Site.{IsReady, HasReign};
+ghost use Rattle.site_store.specs.Site.{HasReign};
+ghost use Rattle.site_store.specs.Owning.{disk_of, memory_of, IsGoing};
 ghost use Rattle.repl_section.specs.Reigns.{Reigns, stamp_of};
 ghost use Rattle.repl_section.specs.Deciding.{HasDecided, Breaks, WithholdsNone, IsFault};
 
@@ -26,7 +27,7 @@ pub enum RunError {
     NoMemory,
 }
 
-impl Reign {
+impl<D: Disk> Reign<D> {
     /// Decides, for each updater of the order in turn, the next of its jobs, and gives the replies, each once its entry is hardened. An
     /// updater without a job is passed over. A job of more than 256 updates or with a value of more than 1,500 bytes, an updater that isn't from 1 to 64
     /// and a serial that is past 2^32 - 1 take more memory than there is.
@@ -34,34 +35,33 @@ impl Reign {
     /// # Errors
     /// `Failed` only where the disk's count rose: the jobs before the one that failed have their replies, and the others are counted. The
     /// reign is of no more use then. `NoMemory`, and then it isn't either.
-    pub fn run<D: Disk, J: JobSource, S: ReplySink>(
+    pub fn run<J: JobSource, S: ReplySink>(
         &mut self,
         alloc: Global,
-        disk: &mut D,
         jobs: &mut J,
         order: &[u8],
         sink: &mut S,
     ) -> Result<(), RunError>
-        requires ready { IsReady (D.disk disk.old) self.old.site }
-        requires reign { HasReign self.old.site }
-        ensures ready { OnOk result (IsReady (D.disk disk.new) self.new.site) }
-        ensures reign { OnOk result (HasReign self.new.site) }
-        ensures stamp { self.new.site.stamp ≡ self.old.site.stamp }
-        ensures done { OnOk result ((told : Bool) (c : Contents) → Reigns (D.disk disk.old) told c self.old → HasDecided (D.disk disk.new) told c (J.jobs jobs.old) order.now self.old self.new (S.gave sink.old sink.new)) }
-        ensures left { OnOk result ((told : Bool) (c : Contents) → Reigns (D.disk disk.old) told c self.old → J.jobs jobs.new ≡ (turn_of (stamp_of self.old) self.old.serials (J.jobs jobs.old) order.now c.sequence).left) }
-        ensures breaks { IfErr result (λ e. (told : Bool) (c : Contents) → Reigns (D.disk disk.old) told c self.old → Breaks e (D.disk disk.new) (stamp_of self.old) told c (J.jobs jobs.old) order.now self.old.serials (S.gave sink.old sink.new)) }
+        requires ready { IsGoing D.disk self.old.site }
+        requires reign { HasReign (memory_of self.old.site) }
+        ensures ready { OnOk result (IsGoing D.disk self.new.site) }
+        ensures reign { OnOk result (HasReign (memory_of self.new.site)) }
+        ensures stamp { (memory_of self.new.site).stamp ≡ (memory_of self.old.site).stamp }
+        ensures done { OnOk result ((told : Bool) (c : Contents) → Reigns (D.disk (disk_of self.old.site)) told c self.old → HasDecided (D.disk (disk_of self.new.site)) told c (J.jobs jobs.old) order.now self.old self.new (S.gave sink.old sink.new)) }
+        ensures left { OnOk result ((told : Bool) (c : Contents) → Reigns (D.disk (disk_of self.old.site)) told c self.old → J.jobs jobs.new ≡ (turn_of (stamp_of self.old) self.old.serials (J.jobs jobs.old) order.now c.sequence).left) }
+        ensures breaks { IfErr result (λ e. (told : Bool) (c : Contents) → Reigns (D.disk (disk_of self.old.site)) told c self.old → Breaks e (D.disk (disk_of self.new.site)) (stamp_of self.old) told c (J.jobs jobs.old) order.now self.old.serials (S.gave sink.old sink.new)) }
         // where the disk failed all jobs before the one that failed have their replies
-        ensures withholds_none { IfErr result (λ e. (told : Bool) (c : Contents) → Reigns (D.disk disk.old) told c self.old → WithholdsNone e (D.disk disk.new) (stamp_of self.old) told c (J.jobs jobs.old) order.now self.old.serials (S.gave sink.old sink.new)) }
-        ensures simulated { (D.disk disk.new).simulated ≡ (D.disk disk.old).simulated }
-        ensures later { (D.disk disk.old).faults ≤ (D.disk disk.new).faults }
-        ensures cause { IfErr result (λ e. IsFault e → Rose (D.disk disk.old).faults (D.disk disk.new).faults) }
+        ensures withholds_none { IfErr result (λ e. (told : Bool) (c : Contents) → Reigns (D.disk (disk_of self.old.site)) told c self.old → WithholdsNone e (D.disk (disk_of self.new.site)) (stamp_of self.old) told c (J.jobs jobs.old) order.now self.old.serials (S.gave sink.old sink.new)) }
+        ensures simulated { (D.disk (disk_of self.new.site)).simulated ≡ (D.disk (disk_of self.old.site)).simulated }
+        ensures later { (D.disk (disk_of self.old.site)).faults ≤ (D.disk (disk_of self.new.site)).faults }
+        ensures cause { IfErr result (λ e. IsFault e → Rose (D.disk (disk_of self.old.site)).faults (D.disk (disk_of self.new.site)).faults) }
     {
         let mut undecided = order.len() as u64;
         for updater in order {
             let Some(job) = jobs.take_next(*updater) else {
                 continue;
             };
-            match self.settle(alloc, disk, *updater, job, sink) {
+            match self.settle(alloc, *updater, job, sink) {
                 Ok(()) => undecided -= 1,
                 Err(DecideError::Failed) => return Err(RunError::Failed { undecided }),
                 Err(DecideError::NoMemory) => return Err(RunError::NoMemory),

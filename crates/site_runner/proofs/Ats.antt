@@ -1,11 +1,13 @@
 -- Sites at their places.
 use Rattle.std.proofs.Common.{◌≡◌, ℕ, Bool, true, false, List, [], ◌∷◌, ◌++◌, length, take, None, Some, refl, sym, ◌∙◌, ap, subst, arith, inl, inr}
-use Rattle.std.specs.Prelude.{◌⊎◌, Option, option_map, IfSome, IsSome, IsSomeAnd, Result, Ok, Err, IfOk}
+use Rattle.std.specs.Prelude.{◌⊎◌, Option, IfSome, IsSome, IsSomeAnd, Result, Ok, Err, IfOk}
 use Rattle.std.proofs.lemmas.Bool.{false≢true}
 use Rattle.std.proofs.Math.Seq.{take-length}
 use Rattle.disk_defs.specs.Disk.{Files, View, Image, IsLawful, AtEachMoment}
-use Rattle.site_store.specs.declared.site.OpenSite.{OpenSite}
-use Rattle.site_store.specs.Site.{IsOpen, Keeps}
+use Rattle.site_store.specs.declared.memory.Memory.{Memory}
+use Rattle.site_store.specs.Site.{IsOpen}
+use Rattle.site_store.specs.declared.site.Site as store
+use Rattle.site_store.specs.Owning.{GoesOn, IsOpenSite, disk_of, memory_of}
 use Rattle.journal_defs.specs.Numbers.{INSTANCE}
 use Rattle.journal_defs.specs.Instance.{generation}
 use Rattle.site_store.proofs.Found.{instance_one, site_instance, blank_instance, site_made}
@@ -14,20 +16,20 @@ use Rattle.world_defs.specs.World as world
 use Rattle.command_defs.specs.Commands.{Name}
 use Rattle.world_defs.specs.World.{Place, Covers, CoversSo, has_failed, has_failed_on, Kept, StandAfter, StandAsBefore}
 use Rattle.site_defs.specs.Contents.{Contents, Leftover, Standing, NO_LEFTOVER, nothing, is_made, bare}
-use Rattle.world_defs.specs.Answers.{Cause, Stopped, Refusal, Section, Done, Refused, DiskFault, NotAFile, Ran, Typed, line, cause_text, refusal_line, fault_line, damage_line, Running}
-use Rattle.world_defs.specs.Row.{Row, first, in_state, or_else, refused_with, refusal_in, why_not_down}
+use Rattle.world_defs.specs.Answers.{Cause, Refusal, Section, Done, Refused, DiskFault, NotAFile, Ran, Typed, line, cause_text, refusal_line, fault_line, damage_line}
+use Rattle.world_defs.specs.Row.{Row, first, in_state, or_else, refused_with, refusal_in}
 use Rattle.site_defs.specs.Fronts.{with_sequence}
 use Rattle.site_defs.specs.Opening.{IsBehind}
 use Rattle.world_defs.specs.Changes.{in_new_state}
 use Rattle.world_defs.specs.Ties.{StandsBy, StandsSoBy, Matches}
 use Rattle.site_defs.specs.Stands.{IsSite, HasLeft, Stands, Reads}
 use Rattle.site_defs.specs.Behind.{IsStanding, IsSiteWith, StandsSo}
-use Rattle.site_runner.specs.declared.slot.State.{State}
-use Rattle.site_runner.specs.declared.slot.State.TheVariants.{Down, Primary, Failed}
-use Rattle.site_runner.specs.declared.slot.Site.{Site}
 use Rattle.site_runner.specs.declared.cause.Cause as code
+use Rattle.site_runner.specs.declared.ending.Ended.{Ended}
+use Rattle.site_runner.specs.declared.ending.Ended.TheVariants as ends
+use Rattle.site_runner.specs.Ending.{is_done_at}
 use Rattle.site_runner.specs.Causes.{cause_value}
-use Rattle.site_runner.specs.Sites.{state_value, site_value}
+use Rattle.site_runner.specs.Sites.{state_value, site_value, State, Down, Failed, Site}
 use Rattle.site_runner.specs.Executes.{Comes}
 use Rattle.site_runner.specs.Steps.{IsAt, ExecutesAt}
 
@@ -135,37 +137,25 @@ refuses row v s cause before now e same by t p h = let r : Refusal = record { si
 
 -- What a call answered that refuses, or ends a command otherwise.
 
-pub on_not_done : {E : Type 0} (r : Result Bool E) (T : Type 0) (P : Bool → Type 0) → IfOk r (λ done. (done ≡ false) × T) → (T → P false) → IfOk r P
-on_not_done (Ok done) T P h f = subst P (sym h.0) (f h.1)
+pub on_not_done : {E : Type 0} (r : Result Ended E) (T : Type 0) (P : Ended → Type 0) → IfOk r (λ ended. (ended ≡ ends.Undone) × T) → (T → P ends.Undone) → IfOk r P
+on_not_done (Ok ended) T P h f = subst P (sym h.0) (f h.1)
 on_not_done (Err e) T P h f = h
 
-pub on_failed : {E : Type 0} (r : Result Bool E) (new at : Site) (T : Type 0) (P : Site → Bool → Type 0) → IfOk r (λ done. (done ≡ false) × (new ≡ at) × T) → (T → P at false) → IfOk r (P new)
-on_failed (Ok done) new at T P h f = subst (λ (x : Site). P x done) (sym h.1) (subst (P at) (sym h.0) (f h.2))
-on_failed (Err e) new at T P h f = h
+pub on_failed : {E : Type 0} (r : Result Ended E) (k : ℕ) (T : Type 0) (P : Ended → Type 0) → IfOk r (λ ended. (ended ≡ ends.Failed k) × T) → (T → P (ends.Failed k)) → IfOk r P
+on_failed (Ok ended) k T P h f = subst P (sym h.0) (f h.1)
+on_failed (Err e) k T P h f = h
 
 pub on_done : {T E : Type 0} (r : Result T E) (P Q : T → Type 0) → IfOk r P → ((x : T) → P x → Q x) → IfOk r Q
 on_done (Ok x) P Q h f = f x h
 on_done (Err e) P Q h f = h
 
 -- a refusal that names and states decide, by the code's cause
-pub refuses_by : {E : Type 0} (row : Place → Row) (v : View) (s : Site) (cause : code.Cause) (before now name : List ℕ) (r : Result Bool E)
+pub refuses_by : {E : Type 0} (row : Place → Row) (v : View) (s : Site) (cause : code.Cause) (before now name : List ℕ) (r : Result Ended E) (after : Ended → Site) → after ends.Undone ≡ s
     → ((p : Place) → IsAt v s p → (row p).early ≡ refused_with s.name (Some (cause_value cause))) → ((p : Place) → (row p).refused (record { site = s.name; cause = cause_value cause }) p)
-    → ((p : Place) → (row p).by_bytes (Refused (record { site = s.name; cause = cause_value cause }))) → name ≡ s.name → IfOk r (λ done. (done ≡ false) × (now ≡ before ++ line name (cause_text (cause_value cause)))) → IfOk r (λ done. ExecutesAt row v s v s before now done)
-refuses_by row v s cause before now name r e same by n h =
-    on_not_done r _ _ h (λ t. refuses row v s (cause_value cause) before now e same by (t ∙ ap (λ (x : List ℕ). before ++ line x (cause_text (cause_value cause))) n))
-
--- what the code's test finds the definitions' test finds
-pub why_is : (why : Option code.Cause) (cause : code.Cause) (test : Option Cause) → option_map cause_value why ≡ test → why ≡ Some cause → test ≡ Some (cause_value cause)
-why_is why cause test e is = sym e ∙ ap (option_map cause_value) is
-
-pub none_why : (why : Option code.Cause) (test : Option Cause) → option_map cause_value why ≡ test → why ≡ None → test ≡ None
-none_why why test e is = sym e ∙ ap (option_map cause_value) is
-
--- a site that isn't anything else is down
-pub is_down : (s : State) (why : Option code.Cause) → option_map cause_value why ≡ why_not_down (state_value s) → why ≡ None → s ≡ Down
-is_down Down why e is = refl
-is_down (Failed k) why e is = let none = none_why why (Some (Stopped k)) e is in cc
-is_down (Primary r) why e is = let none = none_why why (Some Running) e is in cc
+    → ((p : Place) → (row p).by_bytes (Refused (record { site = s.name; cause = cause_value cause }))) → name ≡ s.name → IfOk r (λ ended. (ended ≡ ends.Undone) × (now ≡ before ++ line name (cause_text (cause_value cause))))
+    → IfOk r (λ ended. ExecutesAt row v s v (after ended) before now (is_done_at ended))
+refuses_by row v s cause before now name r after same_site e same by n h =
+    on_not_done r _ _ h (λ t. subst (λ (x : Site). ExecutesAt row v s v x before now false) (sym same_site) (refuses row v s (cause_value cause) before now e same by (t ∙ ap (λ (x : List ℕ). before ++ line x (cause_text (cause_value cause))) n)))
 
 -- a test of a site's state is one of its place
 pub state_at : (test : world.State → Option Cause) (v : View) (s : Site) (p : Place) → IsAt v s p → in_state test p.site ≡ test (state_value s.state)
@@ -438,25 +428,30 @@ only o d (inl h) = h
 only o d (inr h) = absurd h
 
 -- nothing lies behind the hardened entries of an open site
-abbrev pub NothingIsLeft : View → Type 0
-NothingIsLeft w = (c : Contents) (h : ℕ) (s : OpenSite) (f : Files) → Keeps w c h s → Image w f → HasLeft f (with_sequence c (take h c.sequence)) NO_LEFTOVER
+abbrev pub NothingIsLeft : View → Memory → Type 0
+NothingIsLeft w s = (c : Contents) (h : ℕ) (f : Files) → IsOpen w true c h s → Image w f → HasLeft f (with_sequence c (take h c.sequence)) NO_LEFTOVER
+
+-- what the law of it says of a site that goes on
+pub nothing_in : {D : Type 0} (view : D → View) (s : store.Site D) → GoesOn s → ((c : Contents) (h : ℕ) (f : Files) → IsOpenSite view true c h s → Image (view (disk_of s)) f → HasLeft f (with_sequence c (take h c.sequence)) NO_LEFTOVER)
+    → NothingIsLeft (view (disk_of s)) (memory_of s)
+nothing_in view s goes law c h f is_open i = law c h f (record { fault = goes; inner = is_open }) i
 
 -- each image of an open site's disk stands for its contents
-pub open_site : (w : View) (c : Contents) (s : OpenSite) → IsOpen w true c (length c.sequence) s → (f : Files) → Image w f → IsSite f c
+pub open_site : (w : View) (c : Contents) (s : Memory) → IsOpen w true c (length c.sequence) s → (f : Files) → Image w f → IsSite f c
 open_site w c s h f i = subst (λ seq. IsSite f (with_sequence c seq)) (take-length c.sequence) ((h.kept refl).images f i)
 
 -- an open site's disk and each image stand for its contents, and nothing lies behind them
-pub open_reads : (w : View) (nothing : NothingIsLeft w) (told : Bool) (c : Contents) (s : OpenSite) → IsLawful w → told ≡ true → IsOpen w told c (length c.sequence) s → IsSomeAnd w.content (λ files. Reads files c NO_LEFTOVER)
-open_reads w nothing told c s law sure h =
+pub open_reads : (w : View) (s : Memory) (nothing : NothingIsLeft w s) (told : Bool) (c : Contents) → IsLawful w → told ≡ true → IsOpen w told c (length c.sequence) s → IsSomeAnd w.content (λ files. Reads files c NO_LEFTOVER)
+open_reads w s nothing told c law sure h =
     let kept = h.kept sure in
     let r = reads_image w law (told_is w.content _ kept.reads) in
     let site : IsSite r.0 c = subst (λ seq. IsSite r.0 (with_sequence c seq)) (take-length c.sequence) (kept.images r.0 r.2) in
-    let left : HasLeft r.0 c NO_LEFTOVER = subst (λ seq. HasLeft r.0 (with_sequence c seq) NO_LEFTOVER) (take-length c.sequence) (nothing c (length c.sequence) s r.0 kept r.2) in
+    let left : HasLeft r.0 c NO_LEFTOVER = subst (λ seq. HasLeft r.0 (with_sequence c seq) NO_LEFTOVER) (take-length c.sequence) (nothing c (length c.sequence) r.0 (subst (λ (b : Bool). IsOpen w b c (length c.sequence) s) sure h) r.2) in
     subst (λ (x : Option Files). IsSomeAnd x (λ files. Reads files c NO_LEFTOVER)) (sym r.1) (inr (site, left))
 
-pub open_images : (w : View) (nothing : NothingIsLeft w) (told : Bool) (c : Contents) (s : OpenSite) → told ≡ true → IsOpen w told c (length c.sequence) s → (f : Files) → Image w f → StandsSo f (bare c)
-open_images w nothing told c s sure h f i = inr (record {
+pub open_images : (w : View) (s : Memory) (nothing : NothingIsLeft w s) (told : Bool) (c : Contents) → told ≡ true → IsOpen w told c (length c.sequence) s → (f : Files) → Image w f → StandsSo f (bare c)
+open_images w s nothing told c sure h f i = inr (record {
   site = open_site w c s (subst (λ (b : Bool). IsOpen w b c (length c.sequence) s) sure h) f i;
   torn = [];
-  left = subst (λ seq. HasLeft f (with_sequence c seq) NO_LEFTOVER) (take-length c.sequence) (nothing c (length c.sequence) s f (h.kept sure) i);
+  left = subst (λ seq. HasLeft f (with_sequence c seq) NO_LEFTOVER) (take-length c.sequence) (nothing c (length c.sequence) f (subst (λ (b : Bool). IsOpen w b c (length c.sequence) s) sure h) i);
 })

@@ -1,8 +1,7 @@
 -- ATTACH in the world.
-use Rattle.std.proofs.Common.{◌≡◌, ◌≢◌, ◌⊎◌, ℕ, zero, suc, ◌<◌, Bool, true, false, cond, not, nat_lt, List, [], ◌∷◌, ◌++◌, length, get_or, set, take, None, Some, refl, sym, ◌∙◌, ap, subst, arith, inl, inr, Ok, Err}
-use Rattle.std.specs.Prelude.{Option, Result, option_map, slice_get, codes, is_some}
+use Rattle.std.proofs.Common.{◌≡◌, ◌≢◌, ◌⊎◌, ℕ, zero, suc, Bool, true, false, cond, not, nat_lt, List, [], ◌∷◌, ◌++◌, length, set, take, None, Some, refl, sym, ◌∙◌, ap, subst, arith, inl, inr, Ok, Err}
+use Rattle.std.specs.Prelude.{Option, Result, option_map, slice_get, remove, codes, is_some, OnOk, OnErr}
 use Rattle.std.proofs.lemmas.Bool.{false≢true, and_parts, lt-ltb}
-use Rattle.std.proofs.lemmas.List.{set-set}
 use Rattle.disk_defs.specs.Disk.{View}
 use Rattle.std.specs.List.{AllZip}
 use Rattle.journal_defs.specs.Numbers.{INSTANCE}
@@ -14,35 +13,41 @@ use Rattle.site_store.specs.declared.error.SiteError.TheVariants.{Failed, Stoppe
 use Rattle.command_defs.specs.Commands.{Name, Attach}
 use Rattle.site_defs.specs.Lists.{first_where}
 use Rattle.world_defs.specs.World as world
-use Rattle.world_defs.specs.World.{Place, World, IfShown, is_site_named, place_of, next_of}
+use Rattle.world_defs.specs.World.{Place, World, IfShown, place_of, next_of}
 use Rattle.site_defs.specs.Contents.{Contents, is_made, same_name}
 use Rattle.world_defs.specs.Answers.{Exists, NoDisk, Empty, line}
 use Rattle.world_defs.specs.Row.{caused, refused_with, refusal_in}
 use Rattle.world_defs.specs.Meaning.{apart, Acts, refusing}
 use Rattle.world_defs.specs.rows.Attach.{ATTACHING, not_attached, IsNamedBy, NotAttachedBy, attach}
 use Rattle.site_runner.specs.declared.slot.Slot.{Slot}
-use Rattle.site_runner.specs.Sites.{site_value, is_slot_named, IsOf}
+use Rattle.site_runner.specs.declared.slot.Slot.TheVariants.{Free, Down}
+use Rattle.gvn_key.specs.declared.bytes.NoMemory as memory
+use Rattle.site_runner.specs.declared.ending.Ended.{Ended}
+use Rattle.site_runner.specs.Sites.{is_slot_named, IsOf, disk_in, is_slot_free}
 use Rattle.site_runner.specs.Tied.{IsPlace, Tied}
 use Rattle.site_runner.specs.Executes.{Comes, ExecutesHere, Executes, IsCutOff}
 use Rattle.site_runner.specs.Looking.{fits, IsFoundBy, Finds, LooksHere, Tells}
-use Rattle.site_runner.specs.Attaching.{with_site, Takes}
+use Rattle.site_runner.specs.Attaching.{Takes, AttachesHere}
 use Rattle.site_runner.proofs.Ats.{if_some, any_shown, is_true_or_false, comes_done, comes_refused, comes_may_refuse, comes_fault, comes_damaged, images_of, standings_of, up_free}
 use Rattle.site_runner.proofs.Stopped.{names_same}
 use Rattle.site_runner.proofs.Lifts.{means_there, means_none, place_of_slot, ActsBy, lifted, lifted_cut, refused_anywhere, cut_there, cut_no, cut_acts, cut_nothing}
 use Rattle.site_runner.proofs.Looked.{looked_cut}
-use Rattle.site_runner.proofs.Next.{is_slot_free, next_of_slot}
+use Rattle.site_runner.proofs.Next.{next_of_slot}
+use Rattle.site_runner.proofs.Results.{on_ok, err_so}
+use Rattle.world_defs.specs.Ties.{Matches}
 
 -- at the next disk's place, in the world before it
 attach_acts : {D : Type 0} (view : D → View) (slots : List (Slot D)) (i : ℕ) → first_where is_slot_free (take 8 slots) ≡ Some i → ActsBy view Attach attach slots i
 attach_acts view slots i f w h p g = means_there (refusing ATTACHING NoDisk) w (next_of w) i p (λ i p. Acts i (attach w p) apart) (next_of_slot view slots w h ∙ f) g
 
-attach_lifted : {D : Type 0} (view : D → View) (slots : List (Slot D)) (i : ℕ) (d s : Slot D) (before now : List ℕ) (done : Bool) → i < length slots → first_where is_slot_free (take 8 slots) ≡ Some i
-    → ((w : World) → Tied view slots w → ExecutesHere view (attach w) (get_or slots i d) s before now done) → Executes view Attach slots (set slots i s) before now
-attach_lifted view slots i d s before now done k f x = lifted view Attach attach slots i d s before now done k (attach_acts view slots i f) x
+attach_lifted : {D : Type 0} (view : D → View) (slots : List (Slot D)) (i : ℕ) (x s : Slot D) (before now : List ℕ) (done : Bool) → slice_get slots i ≡ Some x → first_where is_slot_free (take 8 slots) ≡ Some i
+    → ((w : World) → Tied view slots w → ExecutesHere view (attach w) x s before now done) → Executes view Attach slots (set slots i s) before now
+attach_lifted view slots i x s before now done k f does = lifted view Attach attach slots i x s before now done k (attach_acts view slots i f) does
 
-pub attach_cut : {D : Type 0} (view : D → View) (slots : List (Slot D)) (i : ℕ) (d s : Slot D) (found : Result (Option Layout) SiteError) → i < length slots → first_where is_slot_free (take 8 slots) ≡ Some i
-    → LooksHere view (get_or slots i d) s found → IsCutOff view Attach slots (set slots i s)
-attach_cut view slots i d s found k f look = lifted_cut view Attach attach slots i d s k (attach_acts view slots i f) (λ w. looked_cut view (get_or slots i d) s (attach w) found look)
+attach_cut : {D : Type 0} (view : D → View) (slots : List (Slot D)) (i : ℕ) (x mid s : Slot D) (found : Result (Option Layout) SiteError) → slice_get slots i ≡ Some x → first_where is_slot_free (take 8 slots) ≡ Some i
+    → LooksHere view x mid found → disk_in s ≡ disk_in mid → IsCutOff view Attach slots (set slots i s)
+attach_cut {D} view slots i x mid s found k f look same =
+    lifted_cut view Attach attach slots i x s k (attach_acts view slots i f) (λ w p h. let r = looked_cut view x mid (attach w) found look p h in (r.0, r.1, subst (λ (d : D). Matches (view d) r.0) (sym same) r.2))
 
 -- there is no disk left
 pub no_disk_to_attach : {D : Type 0} (view : D → View) (slots : List (Slot D)) (before now : List ℕ) → first_where is_slot_free (take 8 slots) ≡ None → now ≡ before ++ line ATTACHING (codes "NODISK") → Executes view Attach slots slots before now
@@ -53,17 +58,17 @@ pub attach_not_begun : {D : Type 0} (view : D → View) (slots : List (Slot D)) 
 attach_not_begun view slots = cut_nothing view slots Attach (λ w. cut_there (refusing ATTACHING NoDisk) w (next_of w) (λ i p. Acts i (attach w p) apart) (cut_no w (record { site = ATTACHING; cause = NoDisk })) (λ i p e. cut_acts w i p (attach w p) e))
 
 -- the look failed
-pub attach_failed : {D : Type 0} (view : D → View) (slots : List (Slot D)) (i : ℕ) (d s : Slot D) (e : SiteError) (before now : List ℕ) → i < length slots → first_where is_slot_free (take 8 slots) ≡ Some i
-    → LooksHere view (get_or slots i d) s (Err e) → Tells e ATTACHING before now → Executes view Attach slots (set slots i s) before now
-attach_failed view slots i d s (Failed fault) before now k f look t = attach_lifted view slots i d s before now false k f (λ w h p at_p. let r = look p at_p in comes_fault fault r.0 refl r.1.0 r.2 t)
-attach_failed view slots i d s (Stopped fault) before now k f look t = absurd t
-attach_failed view slots i d s (Full nodes) before now k f look t = absurd t
-attach_failed view slots i d s SeqLimit before now k f look t = absurd t
-attach_failed view slots i d s GenLimit before now k f look t = absurd t
-attach_failed view slots i d s ReignLimit before now k f look t = absurd t
-attach_failed view slots i d s (NeedForward needing) before now k f look t = absurd t
-attach_failed view slots i d s (NotAFile file offset) before now k f look t = attach_lifted view slots i d s before now false k f (λ w h p at_p. let r = look p at_p in comes_damaged file offset r.0 refl r.1.0 r.1.1 r.2 t)
-attach_failed view slots i d s NoMemory before now k f look t = absurd t
+attach_failed : {D : Type 0} (view : D → View) (slots : List (Slot D)) (i : ℕ) (x s : Slot D) (e : SiteError) (before now : List ℕ) → slice_get slots i ≡ Some x → first_where is_slot_free (take 8 slots) ≡ Some i
+    → LooksHere view x s (Err e) → Tells e ATTACHING before now → Executes view Attach slots (set slots i s) before now
+attach_failed view slots i x s (Failed fault) before now k f look t = attach_lifted view slots i x s before now false k f (λ w h p at_p. let r = look p at_p in comes_fault fault r.0 refl r.1.0 r.2 t)
+attach_failed view slots i x s (Stopped fault) before now k f look t = absurd t
+attach_failed view slots i x s (Full nodes) before now k f look t = absurd t
+attach_failed view slots i x s SeqLimit before now k f look t = absurd t
+attach_failed view slots i x s GenLimit before now k f look t = absurd t
+attach_failed view slots i x s ReignLimit before now k f look t = absurd t
+attach_failed view slots i x s (NeedForward needing) before now k f look t = absurd t
+attach_failed view slots i x s (NotAFile file offset) before now k f look t = attach_lifted view slots i x s before now false k f (λ w h p at_p. let r = look p at_p in comes_damaged file offset r.0 refl r.1.0 r.1.1 r.2 t)
+attach_failed view slots i x s NoMemory before now k f look t = absurd t
 
 no_records : (rs : List InstanceRecord) → not (nat_lt 0 (length rs)) ≡ true → rs ≡ []
 no_records [] e = refl
@@ -83,10 +88,10 @@ named_by : (p : Place) (found : Layout) → IfShown p (IsFoundBy (Some found)) �
 named_by p found h = if_some p.shown (IsFoundBy (Some found)) (IsNamedBy found.name) (λ f k. (k.0, k.1, (k.2.0, sym k.2.1.name))) h
 
 -- no site stands on the disk
-pub attach_empty : {D : Type 0} (view : D → View) (slots : List (Slot D)) (i : ℕ) (d s : Slot D) (before now : List ℕ) → i < length slots → first_where is_slot_free (take 8 slots) ≡ Some i
-    → LooksHere view (get_or slots i d) s (Ok None) → now ≡ before ++ line ATTACHING (codes "EMPTY") → Executes view Attach slots (set slots i s) before now
-attach_empty view slots i d s before now k f look t =
-    attach_lifted view slots i d s before now false k f (λ w h p at_p. let r = look p at_p in elim (is_true_or_false p.told) [
+attach_empty : {D : Type 0} (view : D → View) (slots : List (Slot D)) (i : ℕ) (x s : Slot D) (before now : List ℕ) → slice_get slots i ≡ Some x → first_where is_slot_free (take 8 slots) ≡ Some i
+    → LooksHere view x s (Ok None) → now ≡ before ++ line ATTACHING (codes "EMPTY") → Executes view Attach slots (set slots i s) before now
+attach_empty view slots i x s before now k f look t =
+    attach_lifted view slots i x s before now false k f (λ w h p at_p. let r = look p at_p in elim (is_true_or_false p.told) [
       | inl known ↦ comes_refused (record { site = ATTACHING; cause = Empty }) r.0 (rw (known, no_records p.now.instance (r.1.now known)) refl) r.1.kept (none_there p r.1.bytes) r.2 t
       | inr not ↦ comes_may_refuse (record { site = ATTACHING; cause = Empty }) r.0 refl (inl refl, record { unknown = not; kept = r.1.kept }) (none_there p r.1.bytes) r.2 t
     ])
@@ -121,26 +126,31 @@ not_refused : (w : World) (p q : Place) (found : Layout) → (p.told ≡ true) �
 not_refused w p q found (inl known) f e = attached_at w p q found known f ∙ ap (λ (o : Option ℕ). refused_with found.name (caused (is_some o) Exists)) e
 not_refused w p q found (inr not) f e = rw not refl
 
--- a site is searched in the slots after the look as before it
-searched : {X : Type 0} (test : X → Bool) (xs : List X) (i : ℕ) (d s : X) → test (get_or xs i d) ≡ test s → first_where test (set xs i s) ≡ first_where test xs
-searched test [] i d s e = refl
-searched test (x ∷ xs) zero d s e = ap (λ (b : Bool). cond b (Some zero) (option_map suc (first_where test xs))) (sym e)
-searched test (x ∷ xs) (suc i) d s e = ap (λ (o : Option ℕ). cond (test x) (Some zero) (option_map suc o)) (searched test xs i d s e)
+-- An element that doesn't pass is searched for in vain, whether it's there or not.
 
-unnamed : {D : Type 0} (name : Name) (slot : Slot D) → slot.site ≡ None → is_slot_named name slot ≡ false
-unnamed name slot e = ap (λ o. is_site_named name (option_map site_value o)) e
+none_there_yet : (b : Bool) (o p : Option ℕ) → (o ≡ None → p ≡ None) → cond b (Some zero) (option_map suc o) ≡ None → cond b (Some zero) (option_map suc p) ≡ None
+none_there_yet true o p f e = e
+none_there_yet false None p f e = ap (option_map suc) (f refl)
+none_there_yet false (Some k) p f e = cc
 
-names_stay : {D : Type 0} (name : Name) (slots : List (Slot D)) (i : ℕ) (d s : Slot D) → (get_or slots i d).site ≡ None → s.site ≡ None → first_where (is_slot_named name) (set slots i s) ≡ first_where (is_slot_named name) slots
-names_stay name slots i d s a b = searched (is_slot_named name) slots i d s (unnamed name (get_or slots i d) a ∙ sym (unnamed name s b))
+passed_over : {X : Type 0} (test : X → Bool) (xs : List X) (i : ℕ) (x : X) → slice_get xs i ≡ Some x → test x ≡ false → first_where test (remove xs i) ≡ None → first_where test xs ≡ None
+passed_over test [] i x k e n = refl
+passed_over test (y ∷ ys) zero x k e n = let same : y ≡ x = cc in rw (same, e, n) refl
+passed_over test (y ∷ ys) (suc i) x k e n = none_there_yet (test y) (first_where test (remove ys i)) (first_where test ys) (passed_over test ys i x k e) n
 
-item_set : {X : Type 0} (xs : List X) (i : ℕ) (s : X) → i < length xs → slice_get (set xs i s) i ≡ Some s
-item_set [] i s k = absurd (omega arith)
-item_set (x ∷ xs) zero s k = refl
-item_set (x ∷ xs) (suc i) s k = item_set xs i s (omega arith)
+found_with : (b : Bool) (o p : Option ℕ) (k : ℕ) → ((j : ℕ) → o ≡ Some j → (l : ℕ) × (p ≡ Some l)) → cond b (Some zero) (option_map suc o) ≡ Some k → (l : ℕ) × (cond b (Some zero) (option_map suc p) ≡ Some l)
+found_with true o p k f e = (zero, refl)
+found_with false None p k f e = cc
+found_with false (Some j) p k f e = let l = f j refl in (suc l.0, ap (option_map suc) l.1)
 
-attached : {D : Type 0} (view : D → View) (w : World) (p q : Place) (found : Layout) (s : Slot D) (before now : List ℕ) → Finds (Some found) p q → place_of w found.name ≡ None → q.site ≡ None → IsPlace view s q
-    → now ≡ before ++ line found.name (codes "ATTACHED") → Comes (attach w p) (IsPlace view (with_site found.name s)) before now true
-attached view w p q found s before now f e gone at_q t =
+found_among : {X : Type 0} (test : X → Bool) (xs : List X) (i j : ℕ) (x : X) → slice_get xs i ≡ Some x → test x ≡ false → first_where test (remove xs i) ≡ Some j → (l : ℕ) × (first_where test xs ≡ Some l)
+found_among test [] i j x k e n = cc
+found_among test (y ∷ ys) zero j x k e n = let same : y ≡ x = cc in (suc j, rw (same, e, n) refl)
+found_among test (y ∷ ys) (suc i) j x k e n = found_with (test y) (first_where test (remove ys i)) (first_where test ys) j (λ l is. found_among test ys i l x k e is) n
+
+attached : {D : Type 0} (view : D → View) (w : World) (p q : Place) (found : Layout) (d : D) (before now : List ℕ) → Finds (Some found) p q → place_of w found.name ≡ None → IsPlace view (Free d) q
+    → now ≡ before ++ line found.name (codes "ATTACHED") → Comes (attach w p) (IsPlace view (Down d found.name)) before now true
+attached view w p q found d before now f e at_q t =
     let name = found.name in
     let site : world.Site = record { name = name; state = world.Down } in
     let told : q.told ≡ true → p.told ≡ true = λ known. sym f.kept.known.told ∙ known in
@@ -163,26 +173,44 @@ attached view w p q found s before now f e gone at_q t =
     })
     (any_shown p.shown)
     (record {
-      disk = record { told = at_q.disk.told; images = images_of (view s.disk) q (up_free q gone) at_q.disk; standings = standings_of (view s.disk) q (up_free q gone) at_q.disk; shown = at_q.disk.shown; known = at_q.disk.known; faults = at_q.disk.faults; simulated = at_q.disk.simulated };
+      disk = record { told = at_q.disk.told; images = images_of (view d) q (up_free q at_q.site) at_q.disk; standings = standings_of (view d) q (up_free q at_q.site) at_q.disk; shown = at_q.disk.shown; known = at_q.disk.known; faults = at_q.disk.faults; simulated = at_q.disk.simulated };
       site = refl;
       held = record { made = λ known. record { now = subst (IsOf name) (sym f.kept.now) (found_of found p.now (f.now (told known))); outcomes = λ o a. found_of found o (f.outcomes (told known) o a) }; state = tt };
     })
     t
 
--- a site was found there, and its name was looked for
-pub attach_found : {D : Type 0} (view : D → View) (slots new : List (Slot D)) (i : ℕ) (d s : Slot D) (found : Layout) (o : Option ℕ) (before now : List ℕ) → i < length slots → first_where is_slot_free (take 8 slots) ≡ Some i
-    → (get_or slots i d).site ≡ None → s.site ≡ None → LooksHere view (get_or slots i d) s (Ok (Some found)) → first_where (is_slot_named found.name) (set slots i s) ≡ o → Takes o found.name i (set slots i s) new before now
-    → Executes view Attach slots new before now
-attach_found {D} view slots new i d s found None before now k f free free_still look e t =
-    let new_is : new ≡ set slots i (with_site found.name s) = t.0 s (item_set slots i s k) ∙ set-set slots i s (with_site found.name s) in
-    let search = sym (names_stay found.name slots i d s free free_still) ∙ e in
-    subst (λ (x : List (Slot D)). Executes view Attach slots x before now) (sym new_is)
-    (attach_lifted view slots i d (with_site found.name s) before now true k f (λ w h p at_p.
+-- a place that was free still is
+still_free : {D : Type 0} (view : D → View) (x : D) (mid : Slot D) (p q : Place) → IsPlace view (Free x) p → q.site ≡ p.site → IsPlace view mid q → IsPlace view (Free (disk_in mid)) q
+still_free view x mid p q was same h = record { disk = h.disk; site = same ∙ was.site; held = tt }
+
+-- a site was found there, and its name was looked for among the other slots
+attach_found : {D : Type 0} (view : D → View) (slots others : List (Slot D)) (i : ℕ) (x : D) (mid s : Slot D) (found : Layout) (o : Option ℕ) (before now : List ℕ) → slice_get slots i ≡ Some (Free x) → first_where is_slot_free (take 8 slots) ≡ Some i
+    → others ≡ remove slots i → LooksHere view (Free x) mid (Ok (Some found)) → first_where (is_slot_named found.name) others ≡ o → Takes o found.name (disk_in mid) s before now → Executes view Attach slots (set slots i s) before now
+attach_found {D} view slots others i x mid s found None before now k f rest look e t =
+    let named = is_slot_named found.name in
+    let search : first_where named slots ≡ None = passed_over named slots i (Free x) k refl (sym (ap (first_where named) rest) ∙ e) in
+    attach_lifted view slots i (Free x) s before now true k f (λ w h p at_p.
     let r = look p at_p in
-    attached view w p r.0 found s before now r.1 (place_of_slot view slots w found.name h ∙ search) (r.2.site ∙ ap (option_map site_value) free_still) r.2 t.1))
-attach_found {D} view slots new i d s found (Some j) before now k f free free_still look e t =
-    let search = sym (names_stay found.name slots i d s free free_still) ∙ e in
-    subst (λ (x : List (Slot D)). Executes view Attach slots x before now) (sym t.0)
-    (attach_lifted view slots i d s before now false k f (λ w h p at_p.
+    let free = still_free view x mid p r.0 at_p r.1.kept.site r.2 in
+    subst (λ (y : Slot D). Comes (attach w p) (IsPlace view y) before now true) (sym t.0) (attached view w p r.0 found (disk_in mid) before now r.1 (place_of_slot view slots w found.name h ∙ search) free t.1))
+attach_found {D} view slots others i x mid s found (Some j) before now k f rest look e t =
+    let named = is_slot_named found.name in
+    let search = found_among named slots i j (Free x) k refl (sym (ap (first_where named) rest) ∙ e) in
+    attach_lifted view slots i (Free x) s before now false k f (λ w h p at_p.
     let r = look p at_p in
-    refused_exists view w p r.0 j found s before now r.1 (place_of_slot view slots w found.name h ∙ search) r.2 t.1))
+    let free = still_free view x mid p r.0 at_p r.1.kept.site r.2 in
+    subst (λ (y : Slot D). Comes (attach w p) (IsPlace view y) before now false) (sym t.0) (refused_exists view w p r.0 search.0 found (Free (disk_in mid)) before now r.1 (place_of_slot view slots w found.name h ∙ search.1) free t.1))
+
+module _ {D : Type 0} (view : D → View) (slots others : List (Slot D)) (i : ℕ) (x : D) (left : Slot D × Result Ended memory.NoMemory) (before now : List ℕ) (k : slice_get slots i ≡ Some (Free x)) (f : first_where is_slot_free (take 8 slots) ≡ Some i) (rest : others ≡ remove slots i) where
+  -- what ATTACH made of the next disk's slot, among the slots
+  pub attach_done : AttachesHere view others (Free x) left before now → OnOk left.1 (Executes view Attach slots (set slots i left.0) before now)
+  attach_done (Ok None, mid, look, (same, t)) =
+      on_ok left.1 _ _ t (λ e. subst (λ (s : Slot D). Executes view Attach slots (set slots i s) before now) (sym same) (attach_empty view slots i (Free x) mid before now k f look e))
+  attach_done (Ok (Some found), mid, look, (same, t)) = on_ok left.1 _ _ t (λ e. attach_found view slots others i x mid left.0 found (first_where (is_slot_named found.name) others) before now k f rest look refl e)
+  attach_done (Err error, mid, look, (same, t)) =
+      on_ok left.1 _ _ t (λ e. subst (λ (s : Slot D). Executes view Attach slots (set slots i s) before now) (sym same) (attach_failed view slots i (Free x) mid error before now k f look e))
+
+  pub attach_cut_off : AttachesHere view others (Free x) left before now → OnErr left.1 (IsCutOff view Attach slots (set slots i left.0))
+  attach_cut_off (Ok None, mid, look, (same, t)) = err_so left.1 _ (attach_cut view slots i (Free x) mid left.0 (Ok None) k f look (ap disk_in same))
+  attach_cut_off (Ok (Some found), mid, look, (same, t)) = err_so left.1 _ (attach_cut view slots i (Free x) mid left.0 (Ok (Some found)) k f look same)
+  attach_cut_off (Err error, mid, look, (same, t)) = err_so left.1 _ (attach_cut view slots i (Free x) mid left.0 (Err error) k f look (ap disk_in same))

@@ -1,6 +1,6 @@
 -- FUSE and CRASH at a place.
 use Rattle.std.proofs.Common.{◌≡◌, ℕ, Bool, true, false, List, [], ◌∷◌, ◌++◌, None, Some, refl, sym, ◌∙◌, ap, subst, arith, inl, inr}
-use Rattle.std.specs.Prelude.{Option, codes, IfSome, IsSomeAnd}
+use Rattle.std.specs.Prelude.{Option, codes, IfSome, IsSomeAnd, Result, IfOk, OnErr}
 use Rattle.std.proofs.lemmas.Bool.{false≢true}
 use Rattle.std.specs.Fmt.{decimal}
 use Rattle.disk_defs.specs.Disk.{Files, View, Image, IsLawful, Reads}
@@ -8,7 +8,9 @@ use Rattle.site_defs.specs.Lists.{Among}
 use Rattle.world_defs.specs.World as world
 use Rattle.world_defs.specs.World.{Place, Covers, CoversSo, AmongCovered, AmongCoveredSo, has_failed_on}
 use Rattle.site_defs.specs.Contents.{Contents, Leftover, Standing}
-use Rattle.world_defs.specs.Answers.{Cause, NotSimulated, line}
+use Rattle.world_defs.specs.Answers.{NotSimulated, line, cause_text}
+use Rattle.world_defs.specs.Meaning.{row_at}
+use Rattle.gvn_key.specs.declared.bytes.NoMemory.{NoMemory}
 use Rattle.world_defs.specs.Ties.{StandsBy, StandsSoBy}
 use Rattle.command_defs.specs.Commands.{Name}
 use Rattle.world_defs.specs.Row.{refused_with, stopped, not_running, not_simulated}
@@ -19,24 +21,25 @@ use Rattle.site_defs.specs.Opening.{IsBehind}
 use Rattle.site_defs.specs.Stands as stands
 use Rattle.site_defs.specs.Stands.{Stands}
 use Rattle.site_defs.specs.Behind.{StandsSo}
-use Rattle.site_runner.specs.declared.slot.State.TheVariants.{Down}
-use Rattle.site_runner.specs.declared.slot.Site.{Site}
-use Rattle.site_runner.specs.Sites.{state_value, IsOf}
-use Rattle.site_runner.specs.Steps.{IsAt, ExecutesAt}
+use Rattle.site_runner.specs.declared.cause.Cause.TheVariants as causes
+use Rattle.site_runner.specs.declared.slot.Slot.{Slot}
+use Rattle.site_runner.specs.declared.slot.Slot.TheVariants as slots
+use Rattle.site_runner.specs.declared.ending.Ended.{Ended}
+use Rattle.site_runner.specs.declared.ending.Ended.TheVariants.{Undone}
+use Rattle.site_runner.specs.Ending.{down, is_done_at}
+use Rattle.site_runner.specs.Executes.{Leaves}
+use Rattle.site_runner.specs.Sites.{state_value, IsOf, Down, State, Site, disk_in, site_in}
+use Rattle.site_runner.specs.Steps.{IsAt, ExecutesAt, in_state}
+use Rattle.site_runner.proofs.Results.{ok_so, on_errs}
+use Rattle.site_runner.proofs.Stopped.{leaves_at, cut_unless, cut_nowhere}
 use Rattle.site_runner.proofs.Fused.{state_read}
-use Rattle.site_runner.proofs.Ats.{comes_done, not_early, state_at, first_cause, second_cause, no_cause, is_true_or_false, Leftovers, reads_stand, only, files_of, kept_same, as_told, shown_same, StandForOne, standing_read, at_image_by, so_of, stands_for, stands_so_for, stands_by, stands_so_by, still_by}
-
-pub fuse_stopped : (v : View) (s : Site) (calls : ℕ) (cause : Cause) (p : Place) → stopped (state_value s.state) ≡ Some cause → IsAt v s p → (fuse calls s.name p).early ≡ refused_with s.name (Some cause)
-fuse_stopped v s calls cause p e h = ap (refused_with s.name) (first_cause _ _ cause (state_at stopped v s p h ∙ e))
+use Rattle.site_runner.proofs.Ats.{comes_done, not_early, on_done, refuses_by, state_at, second_cause, no_cause, is_true_or_false, Leftovers, reads_stand, only, files_of, kept_same, as_told, shown_same, StandForOne, standing_read, at_image_by, so_of, stands_for, stands_so_for, stands_by, stands_so_by, still_by}
 
 simulated_at : (v : View) (s : Site) (p : Place) (b : Bool) → IsAt v s p → b ≡ v.simulated → not_simulated p.simulated ≡ not_simulated b
 simulated_at v s p b h e = ap not_simulated (sym h.disk.simulated ∙ sym e)
 
 pub fuse_real : (v : View) (s : Site) (calls : ℕ) (p : Place) → stopped (state_value s.state) ≡ None → false ≡ v.simulated → IsAt v s p → (fuse calls s.name p).early ≡ refused_with s.name (Some NotSimulated)
 fuse_real v s calls p e f h = ap (refused_with s.name) (second_cause _ _ [] NotSimulated (state_at stopped v s p h ∙ e) (simulated_at v s p false h f))
-
-pub crash_down : (v : View) (s : Site) (cause : Cause) (p : Place) → not_running (state_value s.state) ≡ Some cause → IsAt v s p → (crash s.name p).early ≡ refused_with s.name (Some cause)
-crash_down v s cause p e h = ap (refused_with s.name) (first_cause _ _ cause (state_at not_running v s p h ∙ e))
 
 pub crash_real : (v : View) (s : Site) (p : Place) → not_running (state_value s.state) ≡ None → false ≡ v.simulated → IsAt v s p → (crash s.name p).early ≡ refused_with s.name (Some NotSimulated)
 crash_real v s p e f h = ap (refused_with s.name) (second_cause _ _ [] NotSimulated (state_at not_running v s p h ∙ e) (simulated_at v s p false h f))
@@ -145,3 +148,21 @@ fused v w s calls before now r count sim up t p h =
     }
     )
     t
+
+-- a crash of a site that was given up
+pub crash_leaves : {D : Type 0} (view : D → View) (old : Slot D) (state : State) (disk : D) (name : Name) (r : Slot D × Result Ended NoMemory) (before now : List ℕ) → site_in old ≡ Some (record { name = name; state = state }) → disk ≡ disk_in old
+    → not_running (state_value state) ≡ None → r.0 ≡ slots.Down (disk_in r.0) name
+    → IfOk r.1 (λ e. (s : State) → not_running (state_value s) ≡ None → ExecutesAt (crash name) (view disk) (in_state (down name) s) (view (disk_in r.0)) (down name) before now (is_done_at e)) → OnErr r.1 (disk_in r.0 ≡ disk)
+    → Leaves view (row_at crash) old r before now
+crash_leaves {D} view old state disk name r before now is of up left done kept =
+    let s : Site = record { name = name; state = state } in
+    leaves_at view crash old r.0 (view (disk_in r.0)) s (λ _. down name) r.1 before now is refl (ok_so r.1 _ (ap site_in left))
+    (on_done r.1 _ _ done (λ e h. subst (λ (d : D). ExecutesAt (crash name) (view d) s (view (disk_in r.0)) (down name) before now (is_done_at e)) of (h state up)))
+    (cut_unless view r.1 (crash name) (disk_in old) (disk_in r.0) s (on_errs r.1 _ _ kept (λ e. e ∙ of)))
+
+-- a disk that isn't simulated isn't crashed
+pub crash_refused : {D : Type 0} (view : D → View) (old : Slot D) (s : Site) (n : Name) (r : Result Ended NoMemory) (before now : List ℕ) → site_in old ≡ Some s → not_running (state_value s.state) ≡ None → false ≡ (view (disk_in old)).simulated → n ≡ s.name
+    → IfOk r (λ ended. (ended ≡ Undone) × (now ≡ before ++ line n (cause_text NotSimulated))) → Leaves view (row_at crash) old (old, r) before now
+crash_refused {D} view old s n r before now is up real named h =
+    leaves_at view crash old old (view (disk_in old)) s (λ _. s) r before now is refl (ok_so r _ is)
+    (refuses_by (crash s.name) (view (disk_in old)) s causes.NotSimulated before now n r (λ _. s) refl (λ p at. crash_real (view (disk_in old)) s p up real at) kept_same (λ p. tt) named h) (cut_nowhere r (crash s.name) (view (disk_in old)) s)

@@ -1,12 +1,12 @@
 -- CREATE at a place.
 use Rattle.std.proofs.Common.{◌≡◌, ◌⊎◌, ℕ, ◌≤◌, Bool, true, false, not, nat_le, if◌then◌else◌, List, [], ◌∷◌, ◌++◌, length, map, Option, None, Some, refl, sym, ◌∙◌, ap, subst, arith, inl, inr, Ok, Err}
-use Rattle.std.specs.Prelude.{Result, codes, IfSome, IsSome, IsSomeAnd, IsErrOf}
+use Rattle.std.specs.Prelude.{Result, codes, IfSome, IsSome, IsSomeAnd, IsErrOf, IfOk, OnOk, OnErr}
 use Rattle.std.specs.List.{list_all, AllByRecursion}
 use Rattle.std.specs.Char.{is_ascii_alphabetic, is_ascii_alphanumeric}
 use Rattle.std.proofs.lemmas.Bool.{false≢true, and_parts, leb-true}
 use Rattle.std.proofs.lemmas.List.{length-map}
 use Rattle.global_defs.specs.Fields.{IsSiteName}
-use Rattle.disk_defs.specs.Disk.{Files, View, Image, IsLawful, AtEachMoment, Rose}
+use Rattle.disk_defs.specs.Disk.{Files, View, Image, IsLawful, AtEachMoment, Rose, MayFail}
 use Rattle.journal_defs.specs.Instance as records
 use Rattle.journal_defs.specs.Instance.{NamedMode, IsInForm, site_name}
 use Rattle.command_defs.specs.Commands.{Name, Region, Create, IsFormed}
@@ -34,25 +34,39 @@ use Rattle.site_defs.specs.Stands.{IsBlank, IsSite, Stands, Reads}
 use Rattle.site_defs.specs.Behind.{StandsSo}
 use Rattle.journal_defs.specs.Numbers.{INSTANCE}
 use Rattle.site_store.proofs.Found.{instance_one, site_instance, blank_instance, site_made}
-use Rattle.site_runner.specs.declared.slot.State.TheVariants.{Down}
 use Rattle.site_runner.specs.declared.slot.Slot.{Slot}
-use Rattle.site_runner.specs.Sites.{IsOf}
-use Rattle.site_runner.specs.Executes.{ExecutesHere, IsCutHere}
+use Rattle.site_runner.specs.Sites.{IsOf, Down, disk_in}
+use Rattle.site_runner.specs.Tied.{IsPlace}
+use Rattle.site_runner.specs.Executes.{ExecutesHere, IsCutHere, Leaves, Comes}
 use Rattle.site_runner.specs.Looking.{fits, IsFoundBy, Finds, LooksHere, Tells}
-use Rattle.site_runner.specs.Creating.{spec_of, IsUnmade, MakesHere, MakingIsCut}
-use Rattle.site_runner.proofs.Ats.{comes_done, comes_refused, comes_may_refuse, comes_fault, comes_damaged, some_outcome, is_true_or_false, some_both, some_of, some_and, told_is, stands_told, at_moment, Leftovers, ReadPlace, place_of_images, place_of_one, only}
-use Rattle.site_runner.proofs.Ats.{images_of, standings_of, up_free, some_standing, stand_same, stand_more, stand_earlier, left_old, left_new, by_shown, if_some, ImagesStand}
-use Rattle.site_runner.proofs.Looked.{some_and_of, none_held, site_none}
+use Rattle.site_runner.specs.Creating.{spec_of, region_of, IsUnmade, MakesHere}
+use Rattle.gvn_key.specs.declared.bytes.NoMemory as memory
+use Rattle.site_runner.specs.declared.ending.Ended.{Ended}
+use Rattle.site_runner.specs.declared.ending.Ended.TheVariants as ends
+use Rattle.site_runner.specs.declared.ending.Ended.TheVariants.{Undone}
+use Rattle.site_runner.specs.Ending.{is_done_at}
+use Rattle.site_runner.proofs.Ats.{on_not_done, comes_done, comes_refused, comes_may_refuse, comes_fault, comes_damaged, some_outcome, is_true_or_false, some_both, some_of, some_and, told_is, stands_told, at_moment, Leftovers, ReadPlace, place_of_images, place_of_one, only}
+use Rattle.site_runner.proofs.Ats.{images_of, standings_of, up_free, some_standing, stand_more, stand_earlier, left_new, by_shown, if_some, ImagesStand}
+use Rattle.site_runner.proofs.Looked.{some_and_of, looked_cut}
+use Rattle.site_runner.proofs.Stopped.{leaves}
+use Rattle.site_runner.proofs.Results.{err_so, on_written}
+use Rattle.site_runner.specs.declared.slot.Slot.TheVariants.{Free}
+use Rattle.site_runner.specs.declared.slot.Slot.TheVariants as slots
+use Rattle.world_defs.specs.Step.{LeftByRow}
 
 -- the regions of a command
 
-regions_same : (rs : List (List ℕ × Bool)) → map store.region_value (map spec_of rs) ≡ map named_mode (map script.region_value rs)
+regions_same : (specs : List RegionSpec) → map store.region_value specs ≡ map named_mode (map region_of specs)
 regions_same [] = refl
-regions_same (r ∷ rs) = ap (λ (xs : List NamedMode). record { name = r.0; before = r.1 } ∷ xs) (regions_same rs)
+regions_same (r ∷ rs) = ap (λ (xs : List NamedMode). record { name = r.name; before = r.before } ∷ xs) (regions_same rs)
 
-made_is : (name : Name) (specs : List RegionSpec) (rs : List (List ℕ × Bool)) → specs ≡ map spec_of rs → made name specs ≡ created name (map script.region_value rs)
-made_is name specs rs e =
-    ap (λ (xs : List NamedMode). record { instance = records.Create name xs ∷ []; starts = λ r. []; epochs = λ r. []; texts = []; losts = []; sequence = [] }) (ap (λ (s : List RegionSpec). map store.region_value s) e ∙ regions_same rs)
+made_is : (name : Name) (specs : List RegionSpec) → made name specs ≡ created name (map region_of specs)
+made_is name specs = ap (λ (xs : List NamedMode). record { instance = records.Create name xs ∷ []; starts = λ r. []; epochs = λ r. []; texts = []; losts = []; sequence = [] }) (regions_same specs)
+
+-- as a command's regions are
+pub regions_of : (rs : List (List ℕ × Bool)) → map region_of (map spec_of rs) ≡ map script.region_value rs
+regions_of [] = refl
+regions_of (r ∷ rs) = ap (λ (xs : List Region). script.region_value r ∷ xs) (regions_of rs)
 
 -- a name of the grammar is a site's
 is_site_name : (s : List ℕ) → is_name s ≡ true → IsSiteName s
@@ -63,18 +77,15 @@ is_site_name (b ∷ bs) h =
     let few = leb-true (length (b ∷ bs)) 15 p.1 in
     (q.0, q.1, omega arith)
 
-are_site_names : (rs : List (List ℕ × Bool)) → list_all (λ (r : Region). is_name r.name) (map script.region_value rs) ≡ true → AllByRecursion (λ (r : NamedMode). IsSiteName r.name) (map store.region_value (map spec_of rs))
+are_site_names : (specs : List RegionSpec) → list_all (λ (r : Region). is_name r.name) (map region_of specs) ≡ true → AllByRecursion (λ (r : NamedMode). IsSiteName r.name) (map store.region_value specs)
 are_site_names [] h = tt
-are_site_names (r ∷ rs) h = let p = and_parts (is_name r.0) (list_all (λ (x : Region). is_name x.name) (map script.region_value rs)) h in (is_site_name r.0 p.0, are_site_names rs p.1)
+are_site_names (r ∷ rs) h = let p = and_parts (is_name r.name) (list_all (λ (x : Region). is_name x.name) (map region_of rs)) h in (is_site_name r.name p.0, are_site_names rs p.1)
 
-specs_length : (rs : List (List ℕ × Bool)) → length (map store.region_value (map spec_of rs)) ≡ length (map script.region_value rs)
-specs_length rs = length-map (map spec_of rs) store.region_value ∙ length-map rs spec_of ∙ sym (length-map rs script.region_value)
+specs_length : (specs : List RegionSpec) → length (map store.region_value specs) ≡ length (map region_of specs)
+specs_length specs = length-map specs store.region_value ∙ sym (length-map specs region_of)
 
-in_form : (name : Name) (rs : List (List ℕ × Bool)) → IsFormed (Create name (map script.region_value rs)) → IsInForm (records.Create name (map store.region_value (map spec_of rs)))
-in_form name rs f = (is_site_name name f.0, omega (arith, f.2, specs_length rs), omega (arith, f.3, specs_length rs), are_site_names rs f.1)
-
-pub specs_in_form : (name : Name) (specs : List RegionSpec) (rs : List (List ℕ × Bool)) → specs ≡ map spec_of rs → IsFormed (Create name (map script.region_value rs)) → IsInForm (records.Create name (map store.region_value specs))
-specs_in_form name specs rs e f = subst (λ (xs : List RegionSpec). IsInForm (records.Create name (map store.region_value xs))) (sym e) (in_form name rs f)
+pub specs_in_form : (name : Name) (specs : List RegionSpec) → IsFormed (Create name (map region_of specs)) → IsInForm (records.Create name (map store.region_value specs))
+specs_in_form name specs f = (is_site_name name f.0, omega (arith, f.2, specs_length specs), omega (arith, f.3, specs_length specs), are_site_names specs f.1)
 
 -- the making of a site
 
@@ -100,24 +111,32 @@ blank_so f s blank (inl none) = none.0
 blank_so f s blank (inr site) =
     absurd (site_made f s.contents site.site (instance_one (f INSTANCE) s.contents.instance [] (site_instance f s.contents site.site) (blank_instance (f INSTANCE) blank.instance)))
 
-pub made_site : {D : Type 0} (leftovers : Leftovers) (view : D → View) (old : Slot D) (disk : D) (name : List ℕ) (specs : List RegionSpec) (rs : List (List ℕ × Bool)) (before now : List ℕ) → specs ≡ map spec_of rs → old.site ≡ None
-    → IfSome (view old.disk).content (λ files. IsBlank files → IfSome (view disk).content (λ new. IsSite new (made name specs)))
-    → IfSome (view old.disk).content (λ files. IsBlank files → ((f : Files) → Image (view old.disk) f → IsBlank f) → (f : Files) → Image (view disk) f → IsSite f (made name specs))
-    → (IsSome (view old.disk).content → IsSome (view disk).content) → (view disk).simulated ≡ (view old.disk).simulated → (view old.disk).faults ≤ (view disk).faults → IfSome (view old.disk).content HasNoRecord → now ≡ before ++ line name (codes "CREATED")
-    → MakesHere view name (map script.region_value rs) old (record { disk = disk; site = Some (record { name = name; state = Down }) }) before now true
-made_site leftovers view old disk name specs rs before now are free reads images still same later empty t p h u =
-    let v = view old.disk in
+-- whatever place without a site the slot was, the making leads to one that it is
+abbrev MakesUp : {D : Type 0} → (D → View) → Name → List Region → Slot D → Slot D → List ℕ → List ℕ → Bool → Type 0
+MakesUp view name regions old new before now done = (p : Place) → IsPlace view old p → IsUnmade p → Comes (create regions name p) (IsPlace view new) before now done
+
+-- or it was cut off for want of memory
+abbrev MakingIsCut : {D : Type 0} → (D → View) → Name → List Region → Slot D → Slot D → Type 0
+MakingIsCut view name regions old new = (p : Place) → IsPlace view old p → IsUnmade p → (q : Place) × LeftByRow (create regions name p) p q × Matches (view (disk_in new)) q
+
+made_site : {D : Type 0} (leftovers : Leftovers) (view : D → View) (d disk : D) (name : List ℕ) (specs : List RegionSpec) (before now : List ℕ)
+    → IfSome (view d).content (λ files. IsBlank files → IfSome (view disk).content (λ new. IsSite new (made name specs)))
+    → IfSome (view d).content (λ files. IsBlank files → ((f : Files) → Image (view d) f → IsBlank f) → (f : Files) → Image (view disk) f → IsSite f (made name specs))
+    → (IsSome (view d).content → IsSome (view disk).content) → (view disk).simulated ≡ (view d).simulated → (view d).faults ≤ (view disk).faults → IfSome (view d).content HasNoRecord → now ≡ before ++ line name (codes "CREATED")
+    → MakesUp view name (map region_of specs) (Free d) (slots.Down disk name) before now true
+made_site leftovers view d disk name specs before now reads images still same later empty t p h u =
+    let v = view d in
     let w = view disk in
-    let regions = map script.region_value rs in
+    let regions = map region_of specs in
     let o : Contents = created name regions in
-    let e : made name specs ≡ o = made_is name specs rs are in
+    let e : made name specs ≡ o = made_is name specs in
     let site : world.Site = record { name = name; state = world.Down } in
     let q : Place = record { site = Some site; told = p.told; now = o; left = NO_LEFTOVER; outcomes = o ∷ []; standings = Some (bare o ∷ []); shown = w.content; faults = w.faults; simulated = p.simulated } in
     let reads_so : p.told ≡ true → IsSomeAnd w.content (λ files. Reads files o NO_LEFTOVER) = λ known.
     let b = some_both v.content _ _ (stands_told v p h.disk known) reads in
     some_and w.content (λ files. IsSite files (made name specs)) (λ files. Reads files o NO_LEFTOVER) (λ f s. let x : IsSite f o = subst (IsSite f) e s in inr (x, leftovers.unbegun f o x refl))
     (some_and_of w.content (λ files. IsSite files (made name specs)) (still (told_is v.content _ (h.disk.told known))) (b.2 (is_blank b.0 p.now (u.now known) b.1).1)) in
-    let blank : p.told ≡ true → (f : Files) → Image v f → IsBlank f = λ known f i. let x = images_of v p (up_free p (site_none view old p free h)) h.disk known f i in (is_blank f x.0 (u.outcomes known x.0 x.1) x.2).1 in
+    let blank : p.told ≡ true → (f : Files) → Image v f → IsBlank f = λ known f i. let x = images_of v p (up_free p h.site) h.disk known f i in (is_blank f x.0 (u.outcomes known x.0 x.1) x.2).1 in
     let images_so : p.told ≡ true → (c : Files) → Image w c → StandsSo c (bare o) = λ known c i.
     let b = some_both v.content _ _ (stands_told v p h.disk known) images in
     made_so leftovers c name regions (subst (IsSite c) e (b.2 (is_blank b.0 p.now (u.now known) b.1).1 (blank known) c i)) in
@@ -195,7 +214,7 @@ making_left leftovers v w p name specs regions k e free m u =
     let o : Contents = created name regions in
     place_of_images leftovers w p p.site (o ∷ p.outcomes) (making_standings o p.standings) k.lawful (k.simulated ∙ m.simulated) (λ known. k.still_told (told_is v.content _ (m.told known))) (making_images v w p name specs o k e free m u) (making_so leftovers v w p name specs regions k e free m u)
 
-abbrev pub Unwritten : SiteError → View → View → Type 0
+abbrev Unwritten : SiteError → View → View → Type 0
 Unwritten (Failed fault) v w = (fault ≡ w.faults) × Rose v.faults w.faults
 Unwritten (Stopped fault) v w = Unit {0}
 Unwritten (Full nodes) v w = Unit {0}
@@ -206,7 +225,7 @@ Unwritten (NeedForward needing) v w = Unit {0}
 Unwritten (NotAFile file offset) v w = ⊥
 Unwritten NoMemory v w = Unit {0}
 
-pub unwritten : (v w : View) (r : Result Unit SiteError) (e : SiteError) → r ≡ Err e → ((fault : ℕ) → IsErrOf r (Failed fault) → fault ≡ w.faults) → ((fault : ℕ) → IsErrOf r (Failed fault) → Rose v.faults w.faults)
+unwritten : (v w : View) (r : Result Unit SiteError) (e : SiteError) → r ≡ Err e → ((fault : ℕ) → IsErrOf r (Failed fault) → fault ≡ w.faults) → ((fault : ℕ) → IsErrOf r (Failed fault) → Rose v.faults w.faults)
     → ((file offset : ℕ) → IsErrOf r (NotAFile file offset) → ⊥) → Unwritten e v w
 unwritten v w r (Failed fault) is count cause other = (count fault is, cause fault is)
 unwritten v w r (Stopped fault) is count cause other = tt
@@ -218,60 +237,82 @@ unwritten v w r (NeedForward needing) is count cause other = tt
 unwritten v w r (NotAFile file offset) is count cause other = other file offset is
 unwritten v w r NoMemory is count cause other = tt
 
-pub make_failed : {D : Type 0} (leftovers : Leftovers) (view : D → View) (old : Slot D) (disk : D) (name : List ℕ) (specs : List RegionSpec) (rs : List (List ℕ × Bool)) (e : SiteError) (before now : List ℕ) → IsMaking (view old.disk) (view disk) name specs
-    → specs ≡ map spec_of rs → old.site ≡ None → Unwritten e (view old.disk) (view disk) → Tells e name before now → MakesHere view name (map script.region_value rs) old (record { disk = disk; site = old.site }) before now false
-make_failed leftovers view old disk name specs rs (Failed fault) before now k are free f t p h u =
+make_failed : {D : Type 0} (leftovers : Leftovers) (view : D → View) (d disk : D) (name : List ℕ) (specs : List RegionSpec) (e : SiteError) (before now : List ℕ) → IsMaking (view d) (view disk) name specs
+    → Unwritten e (view d) (view disk) → Tells e name before now → MakesUp view name (map region_of specs) (Free d) (Free disk) before now false
+make_failed leftovers view d disk name specs (Failed fault) before now k f t p h u =
     let w = view disk in
-    let regions = map script.region_value rs in
+    let regions = map region_of specs in
     let o : Contents = created name regions in
-    let m = making_left leftovers (view old.disk) w p name specs regions k (made_is name specs rs are) (site_none view old p free h) h.disk u in
+    let m = making_left leftovers (view d) w p name specs regions k (made_is name specs) h.site h.disk u in
     let q : Place = record { site = p.site; told = p.told; now = m.now; left = m.left; outcomes = o ∷ p.outcomes; standings = making_standings o p.standings; shown = w.content; faults = w.faults; simulated = p.simulated } in
-    let some = some_outcome (view old.disk) p k.was_lawful h.disk in
+    let some = some_outcome (view d) p k.was_lawful h.disk in
     comes_fault
     fault
     q
     refl
     (record {
-      site = site_none view old p free h;
-      known = record { told = refl; now = λ known. new_or_old name regions p m.now (some known) (m.among known); left = m.behind; outcomes = λ known x a. new_or_old name regions p x (some known) a; standings = λ known. new_or_old_so name regions p.standings (some_standing (view old.disk) p k.was_lawful h.disk known) };
+      site = h.site;
+      known = record { told = refl; now = λ known. new_or_old name regions p m.now (some known) (m.among known); left = m.behind; outcomes = λ known x a. new_or_old name regions p x (some known) a; standings = λ known. new_or_old_so name regions p.standings (some_standing (view d) p k.was_lawful h.disk known) };
       count = sym f.0;
       rose = subst (λ (x : ℕ). Rose p.faults x) (sym f.0) (subst (λ (x : ℕ). Rose x w.faults) h.disk.faults f.1);
       simulated = refl;
     })
-    (record { disk = m.matches; site = h.site; held = none_held view (record { disk = disk; site = old.site }) q free })
+    (record { disk = m.matches; site = h.site; held = tt })
     t
-make_failed leftovers view old disk name specs rs (Stopped fault) before now k are free f t p h u = absurd t
-make_failed leftovers view old disk name specs rs (Full nodes) before now k are free f t p h u = absurd t
-make_failed leftovers view old disk name specs rs SeqLimit before now k are free f t p h u = absurd t
-make_failed leftovers view old disk name specs rs GenLimit before now k are free f t p h u = absurd t
-make_failed leftovers view old disk name specs rs ReignLimit before now k are free f t p h u = absurd t
-make_failed leftovers view old disk name specs rs (NeedForward needing) before now k are free f t p h u = absurd t
-make_failed leftovers view old disk name specs rs (NotAFile file offset) before now k are free f t p h u = absurd f
-make_failed leftovers view old disk name specs rs NoMemory before now k are free f t p h u = absurd t
+make_failed leftovers view d disk name specs (Stopped fault) before now k f t p h u = absurd t
+make_failed leftovers view d disk name specs (Full nodes) before now k f t p h u = absurd t
+make_failed leftovers view d disk name specs SeqLimit before now k f t p h u = absurd t
+make_failed leftovers view d disk name specs GenLimit before now k f t p h u = absurd t
+make_failed leftovers view d disk name specs ReignLimit before now k f t p h u = absurd t
+make_failed leftovers view d disk name specs (NeedForward needing) before now k f t p h u = absurd t
+make_failed leftovers view d disk name specs (NotAFile file offset) before now k f t p h u = absurd f
+make_failed leftovers view d disk name specs NoMemory before now k f t p h u = absurd t
 
-pub make_cut : {D : Type 0} (leftovers : Leftovers) (view : D → View) (old new : Slot D) (name : List ℕ) (specs : List RegionSpec) (rs : List (List ℕ × Bool)) → IsMaking (view old.disk) (view new.disk) name specs → specs ≡ map spec_of rs → old.site ≡ None
-    → MakingIsCut view name (map script.region_value rs) old new
-make_cut leftovers view old new name specs rs k are free p h u =
-    let regions = map script.region_value rs in
-    let m = making_left leftovers (view old.disk) (view new.disk) p name specs regions k (made_is name specs rs are) (site_none view old p free h) h.disk u in (
-      record { site = p.site; told = p.told; now = m.now; left = m.left; outcomes = created name regions ∷ p.outcomes; standings = making_standings (created name regions) p.standings; shown = (view new.disk).content; faults = (view new.disk).faults; simulated = p.simulated },
+make_cut : {D : Type 0} (leftovers : Leftovers) (view : D → View) (d disk : D) (name : List ℕ) (specs : List RegionSpec) → IsMaking (view d) (view disk) name specs
+    → MakingIsCut view name (map region_of specs) (Free d) (Free disk)
+make_cut leftovers view d disk name specs k p h u =
+    let regions = map region_of specs in
+    let m = making_left leftovers (view d) (view disk) p name specs regions k (made_is name specs) h.site h.disk u in (
+      record { site = p.site; told = p.told; now = m.now; left = m.left; outcomes = created name regions ∷ p.outcomes; standings = making_standings (created name regions) p.standings; shown = (view disk).content; faults = (view disk).faults; simulated = p.simulated },
       record {
         told = refl;
-        outcomes = λ known o a. inr (new_or_old name regions p o (some_outcome (view old.disk) p k.was_lawful h.disk known) a);
-        standings = λ known. left_new (rows.MayMakeLeft name regions) p.standings (making_standings (created name regions) p.standings) (new_or_old_so name regions p.standings (some_standing (view old.disk) p k.was_lawful h.disk known));
+        outcomes = λ known o a. inr (new_or_old name regions p o (some_outcome (view d) p k.was_lawful h.disk known) a);
+        standings = λ known. left_new (rows.MayMakeLeft name regions) p.standings (making_standings (created name regions) p.standings) (new_or_old_so name regions p.standings (some_standing (view d) p k.was_lawful h.disk known));
         faults = omega (arith, k.later, h.disk.faults);
         simulated = refl;
       },
       m.matches,
     )
 
--- there was no memory for the regions
-pub make_not_begun : {D : Type 0} (view : D → View) (old : Slot D) (name : List ℕ) (regions : List Region) → MakingIsCut view name regions old old
-make_not_begun view old name regions p h u = (p, record { told = refl; outcomes = λ known o a. inl a; standings = λ known. left_old (rows.MayMakeLeft name regions) p.standings p.standings (stand_same p.standings); faults = omega arith; simulated = refl }, h.disk)
+-- so it's known what it left, by how it ended
+makes_here : {D : Type 0} (view : D → View) (name : Name) (regions : List Region) (old new : Slot D) (ended : Result Ended memory.NoMemory) (before now : List ℕ) → IfOk ended (λ e. MakesUp view name regions old new before now (is_done_at e)) → OnErr ended (MakingIsCut view name regions old new)
+    → MakesHere view name regions old (new, ended) before now
+makes_here view name regions old new (Ok e) before now done cut p h u = done p h u
+makes_here view name regions old new (Err e) before now done cut p h u = cut p h u
+
+-- it failed
+pub making_failed : {D : Type 0} (leftovers : Leftovers) (view : D → View) (d disk : D) (name n : List ℕ) (specs : List RegionSpec) (r : Result Unit SiteError) (e : SiteError) (ended : Result Ended memory.NoMemory) (before now : List ℕ) → IsMaking (view d) (view disk) name specs → r ≡ Err e
+    → MayFail (view d).faults (view disk).faults (λ fault. IsErrOf r (Failed fault)) → ((file offset : ℕ) → IsErrOf r (NotAFile file offset) → ⊥) → n ≡ name → IfOk ended (λ x. (x ≡ Undone) × Tells e n before now)
+    → MakesHere view name (map region_of specs) (Free d) (Free disk, ended) before now
+making_failed leftovers view d disk name n specs r e ended before now k is faults other same t =
+    makes_here view name (map region_of specs) (Free d) (Free disk) ended before now
+    (on_not_done ended _ _ t (λ x. make_failed leftovers view d disk name specs e before now k (unwritten (view d) (view disk) r e is faults.count faults.cause other) (subst (λ (y : List ℕ). Tells e y before now) same x)))
+    (err_so ended _ (make_cut leftovers view d disk name specs k))
+
+-- it was done, and its line may be written
+pub making_done : {D : Type 0} (leftovers : Leftovers) (view : D → View) (d disk : D) (name n : List ℕ) (specs : List RegionSpec) (written : Result Unit memory.NoMemory) (ended : Result Ended memory.NoMemory) (before now : List ℕ) → IsMaking (view d) (view disk) name specs
+    → IfSome (view d).content (λ files. IsBlank files → IfSome (view disk).content (λ new. IsSite new (made name specs)))
+    → IfSome (view d).content (λ files. IsBlank files → ((f : Files) → Image (view d) f → IsBlank f) → (f : Files) → Image (view disk) f → IsSite f (made name specs)) → IfSome (view d).content HasNoRecord → n ≡ name
+    → OnOk written (now ≡ before ++ line n (codes "CREATED")) → OnOk written (ended ≡ Ok ends.Done) → OnErr written (IfOk ended (λ x. ⊥)) → MakesHere view name (map region_of specs) (Free d) (slots.Down disk name, ended) before now
+making_done leftovers view d disk name n specs written ended before now k reads images empty same t is not =
+    makes_here view name (map region_of specs) (Free d) (slots.Down disk name) ended before now
+    (on_written written ended ends.Done _ (λ x. MakesUp view name (map region_of specs) (Free d) (slots.Down disk name) before now (is_done_at x)) t is not
+    (λ e. made_site leftovers view d disk name specs before now reads images k.still_told k.simulated k.later empty (e ∙ ap (λ (y : List ℕ). before ++ line y (codes "CREATED")) same)))
+    (err_so ended _ (make_cut leftovers view d disk name specs k))
 
 -- the command
 
-pub create_failed : {D : Type 0} (view : D → View) (old new : Slot D) (name : List ℕ) (regions : List Region) (e : SiteError) (before now : List ℕ) → LooksHere view old new (Err e) → Tells e name before now → ExecutesHere view (create regions name) old new before now false
+create_failed : {D : Type 0} (view : D → View) (old new : Slot D) (name : List ℕ) (regions : List Region) (e : SiteError) (before now : List ℕ) → LooksHere view old new (Err e) → Tells e name before now → ExecutesHere view (create regions name) old new before now false
 create_failed view old new name regions (Failed fault) before now look t p h =
     let r = look p h in
     comes_fault fault r.0 refl (record {
@@ -297,7 +338,7 @@ create_failed view old new name regions (NotAFile file offset) before now look t
 create_failed view old new name regions NoMemory before now look t p h = absurd t
 
 -- a site was made there
-pub create_refused : {D : Type 0} (view : D → View) (old new : Slot D) (name : List ℕ) (regions : List Region) (found : Layout) (before now : List ℕ) → LooksHere view old new (Ok (Some found)) → now ≡ before ++ line name (codes "NOTEMPTY")
+create_refused : {D : Type 0} (view : D → View) (old new : Slot D) (name : List ℕ) (regions : List Region) (found : Layout) (before now : List ℕ) → LooksHere view old new (Ok (Some found)) → now ≡ before ++ line name (codes "NOTEMPTY")
     → ExecutesHere view (create regions name) old new before now false
 create_refused view old new name regions found before now look t p h =
     let r = look p h in
@@ -385,14 +426,14 @@ here_behind regions name p m (Ran s) q t k h = absurd h.1
 here_behind regions name p m (Typed bytes) q t k h = absurd h.1
 
 -- no site was made there
-pub create_made : {D : Type 0} (view : D → View) (old mid new : Slot D) (name : List ℕ) (regions : List Region) (before now : List ℕ) (done : Bool) → LooksHere view old mid (Ok None) → MakesHere view name regions mid new before now done
+create_made : {D : Type 0} (view : D → View) (old mid new : Slot D) (name : List ℕ) (regions : List Region) (before now : List ℕ) (done : Bool) → LooksHere view old mid (Ok None) → MakesUp view name regions mid new before now done
     → ExecutesHere view (create regions name) old new before now done
 create_made view old mid new name regions before now done look make p h =
     let l = look p h in
     let r = make l.0 l.2 (found_none p l.0 l.1) in
     record { answer = r.answer; becomes = r.becomes; text = r.text; here = here_behind regions name p l.0 r.answer r.becomes r.text l.1.kept r.here; there = r.there; written = r.written; done = r.done }
 
-pub create_made_cut : {D : Type 0} (view : D → View) (old mid new : Slot D) (name : List ℕ) (regions : List Region) → LooksHere view old mid (Ok None) → MakingIsCut view name regions mid new → IsCutHere view (create regions name) old new
+create_made_cut : {D : Type 0} (view : D → View) (old mid new : Slot D) (name : List ℕ) (regions : List Region) → LooksHere view old mid (Ok None) → MakingIsCut view name regions mid new → IsCutHere view (create regions name) old new
 create_made_cut view old mid new name regions look cut p h =
     let l = look p h in
     let k = l.1.kept in
@@ -407,3 +448,25 @@ create_made_cut view old mid new name regions look cut p h =
       },
       r.2,
     )
+
+-- what CREATE left of the slot that was looked at
+
+-- the look failed
+pub create_unseen : {D : Type 0} (view : D → View) (old new : Slot D) (name n : List ℕ) (regions : List Region) (e : SiteError) (ended : Result Ended memory.NoMemory) (before now : List ℕ) → LooksHere view old new (Err e) → n ≡ name → IfOk ended (λ x. (x ≡ Undone) × Tells e n before now)
+    → Leaves view (create regions name) old (new, ended) before now
+create_unseen view old new name n regions e ended before now look same t =
+    leaves view (create regions name) old new ended before now (on_not_done ended _ _ t (λ x. create_failed view old new name regions e before now look (subst (λ (y : List ℕ). Tells e y before now) same x)))
+    (err_so ended _ (looked_cut view old new (create regions name) (Err e) look))
+
+-- a site was made there
+pub create_found : {D : Type 0} (view : D → View) (old new : Slot D) (name n : List ℕ) (regions : List Region) (found : Layout) (ended : Result Ended memory.NoMemory) (before now : List ℕ) → LooksHere view old new (Ok (Some found)) → n ≡ name
+    → IfOk ended (λ x. (x ≡ Undone) × (now ≡ before ++ line n (codes "NOTEMPTY"))) → Leaves view (create regions name) old (new, ended) before now
+create_found view old new name n regions found ended before now look same t =
+    leaves view (create regions name) old new ended before now (on_not_done ended _ _ t (λ x. create_refused view old new name regions found before now look (x ∙ ap (λ (y : List ℕ). before ++ line y (codes "NOTEMPTY")) same)))
+    (err_so ended _ (looked_cut view old new (create regions name) (Ok (Some found)) look))
+
+-- no site was made there
+pub create_there : {D : Type 0} (view : D → View) (old mid new : Slot D) (name : List ℕ) (regions : List Region) (ended : Result Ended memory.NoMemory) (before now : List ℕ) → LooksHere view old mid (Ok None) → MakesHere view name regions mid (new, ended) before now
+    → Leaves view (create regions name) old (new, ended) before now
+create_there view old mid new name regions (Ok e) before now look make = create_made view old mid new name regions before now (is_done_at e) look make
+create_there view old mid new name regions (Err e) before now look make = create_made_cut view old mid new name regions look make

@@ -12,14 +12,12 @@ use Rattle.world_defs.specs.World.{Place}
 use Rattle.world_defs.specs.Answers.{Refusal, line, damage_line}
 use Rattle.world_defs.specs.Row.{or_else}
 use Rattle.world_defs.specs.rows.Extract.{Extracts, extract}
-use Rattle.repl_section.specs.declared.reign.Reign.{Reign}
-use Rattle.site_runner.specs.declared.slot.State.TheVariants.{Primary, Failed}
-use Rattle.site_runner.specs.declared.slot.Site.{Site}
 use Rattle.site_runner.specs.Steps.{IsAt, ExecutesAt}
 use Rattle.site_runner.proofs.Ats.{comes_typed, comes_damaged, not_true, is_true_or_false}
 use Rattle.site_runner.proofs.Remembered.{entries_count}
 use Rattle.site_runner.proofs.Seen.{counted, kept_counted, read_at, read_faulted}
 use Rattle.site_runner.proofs.Stopped.{reigns_at, open_at_place}
+use Rattle.site_runner.specs.Sites.{Primary, Failed, Site, Reign}
 
 -- a place whose files are known is that of the site that is open
 known_open : (v : View) (s : Site) (r : Reign) (p : Place) → s.state ≡ Primary r → IsAt v s p → p.told ≡ true → IsOpen v true p.now (length p.now.sequence) r.site

@@ -15,8 +15,9 @@ use Rattle.global_dir.specs.Directory.{is_mapped}
 use Rattle.global_defs.specs.Pattern.{ends_in_star, stem}
 use Rattle.command_defs.specs.Commands.{Name}
 use Rattle.site_store.specs.declared.layout.Layout.{Layout}
-use Rattle.site_store.specs.declared.layout.FoundSite.{FoundSite}
-use Rattle.site_store.specs.Finding.{HasLayout, IsFound, IsFoundIn}
+use Rattle.site_making.specs.declared.finding.FoundSite.{FoundSite}
+use Rattle.site_store.specs.Finding.{HasLayout, IsFound}
+use Rattle.site_making.specs.Finding.{IsFoundIn}
 use Rattle.site_store.specs.Opening.{region_value}
 use Rattle.site_defs.specs.Lists.{first_where}
 use Rattle.world_defs.specs.World.{Place}
@@ -26,8 +27,7 @@ use Rattle.world_defs.specs.Shown.{HasNoLayout, IsOfAnother}
 use Rattle.world_defs.specs.rows.Map.{twice_mapped, unmapped_by, UnmappedBy}
 use Rattle.site_defs.specs.Limits.{is_written, region_number}
 use Rattle.site_defs.specs.Stands.{IsSite, Stands}
-use Rattle.site_runner.specs.declared.slot.Site.{Site}
-use Rattle.site_runner.specs.Sites.{IsOf}
+use Rattle.site_runner.specs.Sites.{IsOf, Site}
 use Rattle.site_runner.specs.Mapping.{IsSeenAt, IsUnmappedIn, MapsAt}
 use Rattle.site_runner.proofs.Looked.{same_self}
 use Rattle.site_runner.proofs.Stopped.{names_same}

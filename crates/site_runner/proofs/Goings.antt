@@ -27,8 +27,9 @@ use Rattle.site_runner.specs.Ends.{Went, Writes, ComeTo}
 use Rattle.site_runner.specs.Going.{Going, CarriesOut, Breaks, StopsAt, Halts, GoesOn, status_value}
 use Rattle.site_runner.proofs.Told.{appends_then}
 use Rattle.site_runner.proofs.Readings.{come_on, come_to_end, leads_on, leads_to_end}
+use Rattle.site_runner.specs.Sites.{disk_in}
 
-matched_along : {D : Type 0} (view : D → View) (slots : List (Slot D)) (ps : List Place) → Along (λ i slot p. IsPlace view slot p) slots ps → Along (λ i slot p. Matches (view slot.disk) p) slots ps
+matched_along : {D : Type 0} (view : D → View) (slots : List (Slot D)) (ps : List Place) → Along (λ i slot p. IsPlace view slot p) slots ps → Along (λ i slot p. Matches (view (disk_in slot)) p) slots ps
 matched_along view [] [] h = tt
 matched_along view [] (p ∷ ps) h = h
 matched_along view (x ∷ xs) [] h = h

@@ -24,10 +24,7 @@ use Rattle.world_defs.specs.Step.{LeftBy}
 use Rattle.world_defs.specs.Without.{NoneIsWithout, IsWithoutNeed}
 use Rattle.world_defs.specs.Ties.{StandsBy, Matches}
 use Rattle.world_defs.specs.rows.Start.{read_so}
-use Rattle.site_runner.specs.declared.slot.State.{State}
-use Rattle.site_runner.specs.declared.slot.State.TheVariants.{Down, Failed}
-use Rattle.site_runner.specs.declared.slot.Site.{Site}
-use Rattle.site_runner.specs.Sites.{state_value, site_value, HoldsState, IsOf, IsMade}
+use Rattle.site_runner.specs.Sites.{state_value, site_value, HoldsState, IsOf, IsMade, State, Down, Failed, Site}
 use Rattle.site_runner.specs.Steps.{IsAt}
 use Rattle.site_runner.specs.Refusing.{IsDownAt}
 use Rattle.site_runner.proofs.Amongs.{among_flat, flat_among}

@@ -6,12 +6,12 @@ use Rattle.global_defs.specs.Jobs.{Job}
 use Rattle.global_defs.specs.Serial.{Turn, Replied}
 use Rattle.repl_script.proofs.LeftOut.{with_more, turn_same}
 use Rattle.repl_script.specs.Places.{at_all}
-use Rattle.repl_section.specs.declared.reign.Reign.{Reign}
-use Rattle.repl_section.specs.Reigns.{stamp_of}
 use Rattle.repl_section.specs.Deciding.{HasReached, HasDecided, MayHaveFront, FailsBy, FailsAt, FailsIn, LeftAfter, MayLeave}
 use Rattle.site_defs.specs.Contents.{Contents}
 use Rattle.site_defs.specs.Behind.{MayStand}
 use Rattle.site_defs.specs.Fronts.{IsFrontOf, turn_of}
+use Rattle.repl_section.specs.declared.reign.Reign.{Reign}
+use Rattle.repl_section.specs.Reigns.{stamp_of}
 
 -- what all jobs come to, but for the jobs that are left
 same : (stamp : Stamp) (serials : List ℕ) (jobs : List (List Job)) (picks : List ℕ) (seq : Sequence) → turn_of stamp serials (at_all jobs) picks seq ≡ with_more (64 - length jobs) (turn_of stamp serials jobs picks seq)
@@ -20,7 +20,7 @@ same stamp serials jobs picks seq = turn_same stamp serials jobs picks seq
 sequence_same : (stamp : Stamp) (serials : List ℕ) (jobs : List (List Job)) (picks : List ℕ) (seq : Sequence) → (turn_of stamp serials jobs picks seq).sequence ≡ (turn_of stamp serials (at_all jobs) picks seq).sequence
 sequence_same stamp serials jobs picks seq = sym (ap (λ (t : Turn). t.sequence) (same stamp serials jobs picks seq))
 
-pub all_decided : (v : View) (told : Bool) (c : Contents) (jobs : List (List Job)) (picks : List ℕ) (old new : Reign) (gave : List Replied → Type 0) → HasDecided v told c jobs picks old new gave → HasDecided v told c (at_all jobs) picks old new gave
+pub all_decided : {D : Type 0} (v : View) (told : Bool) (c : Contents) (jobs : List (List Job)) (picks : List ℕ) (old new : Reign D) (gave : List Replied → Type 0) → HasDecided v told c jobs picks old new gave → HasDecided v told c (at_all jobs) picks old new gave
 all_decided v told c jobs picks old new gave d =
     subst (λ (t : Turn). HasReached v told c t new gave) (sym (same (stamp_of old) old.serials jobs picks c.sequence))
     (record { reigns = d.reigns; serials = d.serials; given = d.given; grown = d.grown; printed = d.printed })

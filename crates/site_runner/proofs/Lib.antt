@@ -17,6 +17,7 @@ pub mod Shown
 pub mod Lifts
 pub mod Remembered
 pub mod Stopped
+pub mod Endings
 pub mod Marked
 pub mod Fused
 pub mod Crashed
@@ -28,6 +29,7 @@ pub mod LeftOut
 pub mod Ran
 pub mod Next
 pub mod Looked
+pub mod Unfit
 pub mod Created
 pub mod CreateLifts
 pub mod AttachLifts

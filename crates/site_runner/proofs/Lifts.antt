@@ -1,6 +1,6 @@
 -- What a row does at one slot's place, in the world.
-use Rattle.std.proofs.Common.{◌≡◌, ℕ, zero, suc, ◌<◌, Bool, true, false, cond, List, [], ◌∷◌, ◌++◌, length, get_or, set, None, Some, refl, sym, ◌∙◌, ap, subst, arith, inl}
-use Rattle.std.specs.Prelude.{Option, option_map, slice_get}
+use Rattle.std.proofs.Common.{◌≡◌, ℕ, zero, suc, ◌<◌, ◌≤◌, Bool, true, false, cond, List, [], ◌∷◌, ◌++◌, length, get_or, set, None, Some, refl, sym, ◌∙◌, ap, subst, arith, inl, length-set}
+use Rattle.std.specs.Prelude.{Option, option_map, slice_get, remove, insert, Result, Ok, Err, IfOk, OnOk, OnErr}
 use Rattle.disk_defs.specs.Disk.{View}
 use Rattle.site_defs.specs.Contents.{Contents, Standing}
 use Rattle.site_defs.specs.Lists.{Along, At, first_where}
@@ -14,13 +14,17 @@ use Rattle.world_defs.specs.Step.{Goes, LeftBy, LeftByRow, LeavesOld, IsCut}
 use Rattle.world_defs.specs.Ties.{Matches}
 use Rattle.world_laws.proofs.Builds as builds
 use Rattle.site_runner.specs.declared.slot.Slot.{Slot}
-use Rattle.site_runner.specs.Sites.{is_slot_named, IsReadyOn, AreReady}
+use Rattle.site_runner.specs.Sites.{is_slot_named, IsReadySlot, AreReady, disk_in}
 use Rattle.site_runner.specs.Tied.{IsPlace, Tied}
-use Rattle.site_runner.specs.Executes.{ExecutesHere, IsCutHere, Executes, IsCutOff}
+use Rattle.gvn_key.specs.declared.bytes.NoMemory.{NoMemory}
+use Rattle.site_runner.specs.declared.ending.Ended.{Ended}
+use Rattle.site_runner.specs.Ending.{is_done_at}
+use Rattle.site_runner.specs.Executes.{ExecutesHere, IsCutHere, Leaves, Executes, IsCutOff}
 use Rattle.site_runner.specs.Named.{IsOn, target_name, target_row, IsNamed, name_in, row_in}
 use Rattle.site_runner.proofs.FirstWhere.{first_along}
 use Rattle.site_runner.proofs.Ats.{stand_same, left_old, kept_same}
 use Rattle.site_runner.proofs.Goings.{matched}
+use Rattle.site_runner.proofs.Results.{on_any, on_errs}
 
 pub all_kept : (ps : List Place) → Along (λ i. Kept) ps ps
 all_kept [] = tt
@@ -45,12 +49,12 @@ on_none (Open f) w n e = absurd n
 -- Slots and their places.
 
 -- the place of a slot
-pub place_there : {D : Type 0} (view : D → View) (i : ℕ) (slots : List (Slot D)) (ps : List Place) (d : Slot D) → i < length slots
-    → Along (λ j x p. IsPlace view x p) slots ps → (p : Place) × (slice_get ps i ≡ Some p) × IsPlace view (get_or slots i d) p
-place_there view i [] ps d k h = absurd (omega arith)
-place_there view i (x ∷ xs) [] d k h = absurd h
-place_there view zero (x ∷ xs) (p ∷ ps) d k h = (p, refl, h.0)
-place_there view (suc i) (x ∷ xs) (p ∷ ps) d k h = place_there view i xs ps d (omega arith) h.1
+pub place_there : {D : Type 0} (view : D → View) (i : ℕ) (slots : List (Slot D)) (ps : List Place) (x : Slot D) → slice_get slots i ≡ Some x
+    → Along (λ j y p. IsPlace view y p) slots ps → (p : Place) × (slice_get ps i ≡ Some p) × IsPlace view x p
+place_there view i [] ps x e h = cc
+place_there view i (y ∷ ys) [] x e h = absurd h
+place_there {D} view zero (y ∷ ys) (p ∷ ps) x e h = let same : y ≡ x = cc in (p, refl, subst (λ (s : Slot D). IsPlace view s p) same h.0)
+place_there view (suc i) (y ∷ ys) (p ∷ ps) x e h = place_there view i ys ps x e h.1
 
 -- the site with a name stands where its slot does
 pub place_of_slot : {D : Type 0} (view : D → View) (slots : List (Slot D)) (w : World) (name : Name) → Tied view slots w → place_of w name ≡ first_where (is_slot_named name) slots
@@ -67,10 +71,10 @@ found_first true o e = refl
 found_first false None e = cc
 found_first false (Some k) e = cc
 
-pub passes_there : {X : Type 0} (test : X → Bool) (xs : List X) (i : ℕ) (d : X) → first_where test xs ≡ Some i → test (get_or xs i d) ≡ true
-passes_there test [] i d e = cc
-passes_there test (x ∷ xs) zero d e = found_first (test x) (first_where test xs) e
-passes_there test (x ∷ xs) (suc i) d e = passes_there test xs i d (found_step (test x) (first_where test xs) i e)
+pub passes_there : {X : Type 0} (test : X → Bool) (xs : List X) (i : ℕ) (y : X) → slice_get xs i ≡ Some y → first_where test xs ≡ Some i → test y ≡ true
+passes_there test [] i y g e = cc
+passes_there test (x ∷ xs) zero y g e = let same : x ≡ y = cc in sym (ap test same) ∙ found_first (test x) (first_where test xs) e
+passes_there test (x ∷ xs) (suc i) y g e = passes_there test xs i y g (found_step (test x) (first_where test xs) i e)
 
 -- A row at one slot, and all others as they were.
 
@@ -79,26 +83,26 @@ module _ {D : Type 0} (view : D → View) (S : Slot D → Place → Type 0) (Q :
   along_others [] = tt
   along_others (x ∷ xs) = (λ r h. let s = stays x r h in (r, s.0, s.1), along_others xs)
 
-  at_others : (i : ℕ) (slots : List (Slot D)) (s : Slot D) (q : Place) → i < length slots → S s q → At i (λ x y. S y q) (λ j x y. (r : Place) → IsPlace view x r → (s : Place) × Q r s × S y s) slots (set slots i s)
-  at_others i [] s q k h = absurd (omega arith)
-  at_others zero (x ∷ xs) s q k h = (h, along_others xs)
-  at_others (suc i) (x ∷ xs) s q k h = (λ r g. let t = stays x r g in (r, t.0, t.1), at_others i xs s q (omega arith) h)
+  at_others : (i : ℕ) (slots : List (Slot D)) (y s : Slot D) (q : Place) → slice_get slots i ≡ Some y → S s q → At i (λ x y. S y q) (λ j x y. (r : Place) → IsPlace view x r → (s : Place) × Q r s × S y s) slots (set slots i s)
+  at_others i [] y s q k h = cc
+  at_others zero (x ∷ xs) y s q k h = (h, along_others xs)
+  at_others (suc i) (x ∷ xs) y s q k h = (λ r g. let t = stays x r g in (r, t.0, t.1), at_others i xs y s q k h)
 
 -- a command that acts by that row at that place
 abbrev pub ActsBy : {D : Type 0} → (D → View) → Command → (World → Place → Row) → List (Slot D) → ℕ → Type 1
 ActsBy view c row slots i = (w : World) → Tied view slots w → (p : Place) → slice_get w.places i ≡ Some p → meaning w c ≡ Acts i (row w p) apart
 
-pub lifted : {D : Type 0} (view : D → View) (c : Command) (row : World → Place → Row) (slots : List (Slot D)) (i : ℕ) (d s : Slot D) (before now : List ℕ) (done : Bool) → i < length slots → ActsBy view c row slots i
-    → ((w : World) → Tied view slots w → ExecutesHere view (row w) (get_or slots i d) s before now done) → Executes view c slots (set slots i s) before now
-lifted view c row slots i d s before now done k is x w h =
-    let p = place_there view i slots w.places d k h in
-    let r = x w h p.0 p.2 in
-    let m = builds.lifted (IsPlace view) (IsPlace view) i (row w p.0) apart r.answer r.becomes r.text slots (set slots i s) w h r.here (at_others view (IsPlace view) Kept (λ y z g. (kept_same z, g)) i slots s r.becomes k r.there) in
+pub lifted : {D : Type 0} (view : D → View) (c : Command) (row : World → Place → Row) (slots : List (Slot D)) (i : ℕ) (x s : Slot D) (before now : List ℕ) (done : Bool) → slice_get slots i ≡ Some x → ActsBy view c row slots i
+    → ((w : World) → Tied view slots w → ExecutesHere view (row w) x s before now done) → Executes view c slots (set slots i s) before now
+lifted view c row slots i x s before now done k is does w h =
+    let p = place_there view i slots w.places x k h in
+    let r = does w h p.0 p.2 in
+    let m = builds.lifted (IsPlace view) (IsPlace view) i (row w p.0) apart r.answer r.becomes r.text slots (set slots i s) w h r.here (at_others view (IsPlace view) Kept (λ y z g. (kept_same z, g)) i slots x s r.becomes k r.there) in
     (r.answer ∷ [], m.0, r.text, subst (λ (y : Meaning). Goes y (r.answer ∷ []) w m.0 r.text) (sym (is w h p.0 p.1)) (r.answer, refl, m.1), m.2, r.written)
 
 -- the disk of a slot is that of a place
 abbrev pub IsDisk : {D : Type 0} → (D → View) → Slot D → Place → Type 0
-IsDisk view slot p = Matches (view slot.disk) p
+IsDisk view slot p = Matches (view (disk_in slot)) p
 
 left_same : (step : Contents → Contents → Type 0) (so : Standing → Standing → Type 0) (p : Place) → LeftBy step so p p
 left_same step so p = record { told = refl; outcomes = λ t o h. inl h; standings = λ t. left_old so p.standings p.standings (stand_same p.standings); faults = omega arith; simulated = refl }
@@ -106,13 +110,13 @@ left_same step so p = record { told = refl; outcomes = λ t o h. inl h; standing
 old_same : (p : Place) → LeavesOld p p
 old_same p = left_same (λ c o. ⊥) (λ s o. ⊥) p
 
-pub lifted_cut : {D : Type 0} (view : D → View) (c : Command) (row : World → Place → Row) (slots : List (Slot D)) (i : ℕ) (d s : Slot D) → i < length slots → ActsBy view c row slots i
-    → ((w : World) → IsCutHere view (row w) (get_or slots i d) s) → IsCutOff view c slots (set slots i s)
-lifted_cut view c row slots i d s k is x w h =
-    let p = place_there view i slots w.places d k h in
-    let r = x w p.0 p.2 in
+pub lifted_cut : {D : Type 0} (view : D → View) (c : Command) (row : World → Place → Row) (slots : List (Slot D)) (i : ℕ) (x s : Slot D) → slice_get slots i ≡ Some x → ActsBy view c row slots i
+    → ((w : World) → IsCutHere view (row w) x s) → IsCutOff view c slots (set slots i s)
+lifted_cut view c row slots i x s k is cut w h =
+    let p = place_there view i slots w.places x k h in
+    let r = cut w p.0 p.2 in
     builds.cut_lifted (IsPlace view) (IsDisk view) (meaning w c) i (row w p.0) apart p.0 r.0 slots (set slots i s) w h p.1 (is w h p.0 p.1) r.1
-    (at_others view (IsDisk view) LeavesOld (λ y z g. (old_same z, g.disk)) i slots s r.0 k r.2)
+    (at_others view (IsDisk view) LeavesOld (λ y z g. (old_same z, g.disk)) i slots x s r.0 k r.2)
 
 -- a refusal whatever the place
 pub refused_anywhere : {D : Type 0} (view : D → View) (c : Command) (r : Refusal) (slots : List (Slot D)) (before now : List ℕ) → ((w : World) → Tied view slots w → meaning w c ≡ No r) → now ≡ before ++ refusal_line r → Executes view c slots slots before now
@@ -151,18 +155,37 @@ cut_on (Open f) w n = absurd n
 pub cut_nothing : {D : Type 0} (view : D → View) (slots : List (Slot D)) (c : Command) → ((w : World) → IsCut (meaning w c) w w) → IsCutOff view c slots slots
 cut_nothing view slots c f w h = (w, f w, matched view slots w h)
 
+-- What a command left of a slot, by how it ended.
+
+pub left_done : {D : Type 0} (view : D → View) (row : Place → Row) (old new : Slot D) (ended : Result Ended NoMemory) (before now : List ℕ) → Leaves view row old (new, ended) before now → IfOk ended (λ e. ExecutesHere view row old new before now (is_done_at e))
+left_done view row old new (Ok e) before now h = h
+left_done view row old new (Err e) before now h = tt
+
+pub left_cut : {D : Type 0} (view : D → View) (row : Place → Row) (old new : Slot D) (ended : Result Ended NoMemory) (before now : List ℕ) → Leaves view row old (new, ended) before now → OnErr ended (IsCutHere view row old new)
+left_cut view row old new (Ok e) before now h = tt
+left_cut view row old new (Err e) before now h = h
+
 -- Commands on a named site.
 
 module _ {D : Type 0} (view : D → View) (c : Command) (slots : List (Slot D)) (n : IsNamed c) where
   named_acts : (i : ℕ) → first_where (is_slot_named (name_in c)) slots ≡ Some i → ActsBy view c (λ w. row_in c) slots i
   named_acts i f w h p g = on_means (target c) w i p n (place_of_slot view slots w (name_in c) h ∙ f) g
 
-  pub named_lifted : (i : ℕ) (d s : Slot D) (before now : List ℕ) (done : Bool) → i < length slots → first_where (is_slot_named (name_in c)) slots ≡ Some i → ExecutesHere view (row_in c) (get_or slots i d) s before now done
+  named_lifted : (i : ℕ) (x s : Slot D) (before now : List ℕ) (done : Bool) → slice_get slots i ≡ Some x → first_where (is_slot_named (name_in c)) slots ≡ Some i → ExecutesHere view (row_in c) x s before now done
       → Executes view c slots (set slots i s) before now
-  named_lifted i d s before now done k f x = lifted view c (λ w. row_in c) slots i d s before now done k (named_acts i f) (λ w h. x)
+  named_lifted i x s before now done k f does = lifted view c (λ w. row_in c) slots i x s before now done k (named_acts i f) (λ w h. does)
 
-  pub named_cut : (i : ℕ) (d s : Slot D) → i < length slots → first_where (is_slot_named (name_in c)) slots ≡ Some i → IsCutHere view (row_in c) (get_or slots i d) s → IsCutOff view c slots (set slots i s)
-  named_cut i d s k f x = lifted_cut view c (λ w. row_in c) slots i d s k (named_acts i f) (λ w. x)
+  named_cut : (i : ℕ) (x s : Slot D) → slice_get slots i ≡ Some x → first_where (is_slot_named (name_in c)) slots ≡ Some i → IsCutHere view (row_in c) x s → IsCutOff view c slots (set slots i s)
+  named_cut i x s k f cut = lifted_cut view c (λ w. row_in c) slots i x s k (named_acts i f) (λ w. cut)
+
+  -- what a command on the site made of its slot, among the slots
+  pub named_done : (i : ℕ) (x : Slot D) (left : Slot D × Result Ended NoMemory) (before now : List ℕ) → slice_get slots i ≡ Some x → first_where (is_slot_named (name_in c)) slots ≡ Some i → Leaves view (row_in c) x left before now
+      → OnOk left.1 (Executes view c slots (set slots i left.0) before now)
+  named_done i x left before now k f h = on_any left.1 _ _ (left_done view (row_in c) x left.0 left.1 before now h) (λ ended does. named_lifted i x left.0 before now (is_done_at ended) k f does)
+
+  pub named_cut_off : (i : ℕ) (x : Slot D) (left : Slot D × Result Ended NoMemory) (before now : List ℕ) → slice_get slots i ≡ Some x → first_where (is_slot_named (name_in c)) slots ≡ Some i → Leaves view (row_in c) x left before now
+      → OnErr left.1 (IsCutOff view c slots (set slots i left.0))
+  named_cut_off i x left before now k f h = on_errs left.1 _ _ (left_cut view (row_in c) x left.0 left.1 before now h) (λ cut. named_cut i x left.0 k f cut)
 
   -- no site has the name
   pub no_site : (before now : List ℕ) → first_where (is_slot_named (name_in c)) slots ≡ None → now ≡ before ++ refusal_line (record { site = name_in c; cause = NoSite }) → Executes view c slots slots before now
@@ -171,12 +194,45 @@ module _ {D : Type 0} (view : D → View) (c : Command) (slots : List (Slot D)) 
   pub no_site_cut : IsCutOff view c slots slots
   no_site_cut = cut_nothing view slots c (λ w. cut_on (target c) w n)
 
-pub ready_there : {D : Type 0} (view : D → View) (slots : List (Slot D)) (i : ℕ) (d : Slot D) → i < length slots → AreReady view slots → IsReadyOn (view (get_or slots i d).disk) (get_or slots i d).site
-ready_there view [] i d k h = absurd (omega arith)
-ready_there view (x ∷ xs) zero d k h = h.0
-ready_there view (x ∷ xs) (suc i) d k h = ready_there view xs i d (omega arith) h.1
+pub ready_there : {D : Type 0} (view : D → View) (slots : List (Slot D)) (i : ℕ) (x : Slot D) → slice_get slots i ≡ Some x → AreReady view slots → IsReadySlot view x
+ready_there view [] i x k h = cc
+ready_there {D} view (y ∷ ys) zero x k h = let same : y ≡ x = cc in subst (λ (s : Slot D). IsReadySlot view s) same h.0
+ready_there view (y ∷ ys) (suc i) x k h = ready_there view ys i x k h.1
 
-pub ready_set : {D : Type 0} (view : D → View) (slots : List (Slot D)) (i : ℕ) (s : Slot D) → AreReady view slots → IsReadyOn (view s.disk) s.site → AreReady view (set slots i s)
+ready_set : {D : Type 0} (view : D → View) (slots : List (Slot D)) (i : ℕ) (s : Slot D) → AreReady view slots → IsReadySlot view s → AreReady view (set slots i s)
 ready_set view [] i s h r = h
 ready_set view (x ∷ xs) zero s h r = (r, h.1)
 ready_set view (x ∷ xs) (suc i) s h r = (h.0, ready_set view xs i s h.1 r)
+
+-- A slot that was taken out and put back.
+
+-- one that was found in a view of the slots
+pub taken_out : {X : Type 0} (slots xs : List X) (i : ℕ) (x : X) → xs ≡ slots → i < length xs → x ≡ get_or slots i x → slice_get slots i ≡ Some x
+taken_out slots xs i x same k e = there slots i x (subst (λ (l : List _). i < length l) same k) e
+  where
+    there : {X : Type 0} (xs : List X) (i : ℕ) (x : X) → i < length xs → x ≡ get_or xs i x → slice_get xs i ≡ Some x
+    there [] i x k e = absurd (omega arith)
+    there (y ∷ xs) zero x k e = ap (λ (z : _). Some z) (sym e)
+    there (y ∷ xs) (suc i) x k e = there xs i x (omega arith) e
+
+pub put_back_is : {X : Type 0} (xs ys zs : List X) (i : ℕ) (x y : X) → slice_get xs i ≡ Some x → ys ≡ remove xs i → zs ≡ insert ys i y → zs ≡ set xs i y
+put_back_is xs ys zs i x y k e f = f ∙ ap (λ (l : List _). insert l i y) e ∙ inserted xs i x y k
+  where
+    inserted : {X : Type 0} (xs : List X) (i : ℕ) (x y : X) → slice_get xs i ≡ Some x → insert (remove xs i) i y ≡ set xs i y
+    inserted [] i x y k = cc
+    inserted (z ∷ xs) zero x y k = refl
+    inserted (z ∷ xs) (suc i) x y k = ap (λ (l : List _). z ∷ l) (inserted xs i x y k)
+
+pub still_inside : {X : Type 0} (xs ys : List X) (i : ℕ) (x : X) → slice_get xs i ≡ Some x → ys ≡ remove xs i → i ≤ length ys
+still_inside xs ys i x k e = subst (λ (l : List _). i ≤ length l) (sym e) (inside xs i x k)
+  where
+    inside : {X : Type 0} (xs : List X) (i : ℕ) (x : X) → slice_get xs i ≡ Some x → i ≤ length (remove xs i)
+    inside [] i x k = cc
+    inside (y ∷ xs) zero x k = omega arith
+    inside (y ∷ xs) (suc i) x k = let r = inside xs i x k in omega (arith, r)
+
+pub ready_back : {D : Type 0} (view : D → View) (xs ys zs : List (Slot D)) (i : ℕ) (x s : Slot D) → slice_get xs i ≡ Some x → ys ≡ remove xs i → zs ≡ insert ys i s → AreReady view xs → IsReadySlot view s → AreReady view zs
+ready_back {D} view xs ys zs i x s k e f h r = subst (λ (l : List (Slot D)). AreReady view l) (sym (put_back_is xs ys zs i x s k e f)) (ready_set view xs i s h r)
+
+pub length_back : {X : Type 0} (xs ys zs : List X) (i : ℕ) (x y : X) → slice_get xs i ≡ Some x → ys ≡ remove xs i → zs ≡ insert ys i y → length zs ≡ length xs
+length_back xs ys zs i x y k e f = ap length (put_back_is xs ys zs i x y k e f) ∙ length-set xs i y

@@ -1,6 +1,6 @@
 -- What a look finds, at a place.
 use Rattle.std.proofs.Common.{◌≡◌, ◌⊎◌, ℕ, ◌≤◌, Bool, true, false, cond, not, ◌&&◌, nat_eq, nat_lt, List, [], ◌∷◌, length, filter, None, Some, refl, sym, ◌∙◌, ap, subst, arith, inl, inr, Ok, Err}
-use Rattle.std.specs.Prelude.{Option, option_map, Result, IfSome, IsSome, IsSomeAnd, IfOk, OnOk, IsErrOf}
+use Rattle.std.specs.Prelude.{Option, Result, IfSome, IsSome, IsSomeAnd, IfOk, OnOk, IsErrOf}
 use Rattle.std.proofs.lemmas.Bool.{false≢true, eq-eqb, and_from}
 use Rattle.disk_defs.specs.Disk.{Files, View, Image, IsLawful, AtEachMoment, Rose}
 use Rattle.journal_defs.specs.Instance.{InstanceRecord, site_name}
@@ -8,7 +8,7 @@ use Rattle.site_store.specs.declared.layout.Layout.{Layout}
 use Rattle.site_store.specs.declared.error.SiteError.{SiteError}
 use Rattle.site_store.specs.declared.error.SiteError.TheVariants.{Failed, Stopped, Full, SeqLimit, GenLimit, ReignLimit, NeedForward, NotAFile, NoMemory}
 use Rattle.site_store.specs.Finding.{IsFound}
-use Rattle.site_store.specs.Opening.{StandsAsBefore}
+use Rattle.site_making.specs.Finding.{StandsAsBefore}
 use Rattle.command_defs.specs.Commands.{Name}
 use Rattle.site_defs.specs.Lists.{Among}
 use Rattle.world_defs.specs.World.{Place, has_failed_on}
@@ -18,13 +18,12 @@ use Rattle.site_defs.specs.Contents.{Contents, Leftover, is_made, same_name}
 use Rattle.site_defs.specs.Opening.{IsBehind}
 use Rattle.world_defs.specs.Ties.{Matches}
 use Rattle.site_defs.specs.Stands.{Stands, Reads}
-use Rattle.site_runner.specs.declared.slot.Site.{Site}
 use Rattle.site_runner.specs.declared.slot.Slot.{Slot}
-use Rattle.site_runner.specs.Sites.{site_value, HoldsSite}
 use Rattle.site_runner.specs.Tied.{IsPlace}
 use Rattle.site_runner.specs.Executes.{IsCutHere}
 use Rattle.site_runner.specs.Looking.{fits, IsFoundBy, LeavesOld, Sees, LooksHere}
 use Rattle.site_runner.proofs.Ats.{not_true, told_is, some_both, some_of, stands_told, at_moment, Leftovers, place_of_images, stand_same, left_old, ImagesStand, images_still, images_of, standings_of, stands_by, stand_by, up_free, shown_same, by_shown}
+use Rattle.site_runner.specs.declared.slot.Slot.TheVariants.{Free}
 
 pub same_self : (a : Name) → same_name a a ≡ true
 same_self [] = refl
@@ -88,25 +87,19 @@ look_images v w p free k m known c i =
 look_standings : (v w : View) (p : Place) → p.site ≡ None → IsLook v w → Matches v p → p.told ≡ true → ImagesStand w p.standings
 look_standings v w p free k m known = images_still v w p.standings (λ c i. at_moment v w (Image v) c k.lawful k.untouched i) (standings_of v p (up_free p free) m known)
 
-pub none_held : {D : Type 0} (view : D → View) (slot : Slot D) (q : Place) → slot.site ≡ None → HoldsSite (view slot.disk) slot.site q
-none_held view slot q free = subst (λ (o : Option Site). HoldsSite (view slot.disk) o q) (sym free) tt
-
-pub site_none : {D : Type 0} (view : D → View) (slot : Slot D) (p : Place) → slot.site ≡ None → IsPlace view slot p → p.site ≡ None
-site_none view slot p e h = h.site ∙ ap (option_map site_value) e
-
 pub some_and_of : (o : Option Files) (P : Files → Type 0) → IsSome o → IfSome o P → IsSomeAnd o P
 some_and_of None P h k = cc
 some_and_of (Some f) P h k = k
 
 -- the look came to its end
-saw : {D : Type 0} (view : D → View) (old : Slot D) (disk : D) (found : Option Layout) → IsLook (view old.disk) (view disk) → old.site ≡ None
-    → IfSome (view old.disk).content (λ files. (c : Contents) → Stands files c → IsFound c found)
-    → (view disk).content ≡ (view old.disk).content
-    → IfSome (view old.disk).content (λ files. (c o : Contents) (f : Files) → Stands files c → Image (view disk) f → Stands f o → o.instance ≡ c.instance)
-    → IfSome (view old.disk).content (IsFoundBy found)
-    → LooksHere view old (record { disk = disk; site = old.site }) (Ok found)
-saw view old disk found k free is same alike holds p h =
-    let v = view old.disk in
+saw : {D : Type 0} (view : D → View) (d disk : D) (found : Option Layout) → IsLook (view d) (view disk)
+    → IfSome (view d).content (λ files. (c : Contents) → Stands files c → IsFound c found)
+    → (view disk).content ≡ (view d).content
+    → IfSome (view d).content (λ files. (c o : Contents) (f : Files) → Stands files c → Image (view disk) f → Stands f o → o.instance ≡ c.instance)
+    → IfSome (view d).content (IsFoundBy found)
+    → LooksHere view (Free d) (Free disk) (Ok found)
+saw view d disk found k is same alike holds p h =
+    let v = view d in
     let w = view disk in
     let q : Place = record { site = p.site; told = p.told; now = p.now; left = p.left; outcomes = filter (fits found) p.outcomes; standings = p.standings; shown = p.shown; faults = w.faults; simulated = p.simulated } in
     let now : p.told ≡ true → fits found p.now ≡ true = λ known. let b = some_both v.content _ _ (stands_told v p h.disk known) is in found_fits found p.now (b.2 p.now b.1) in (
@@ -121,30 +114,30 @@ saw view old disk found k free is same alike holds p h =
         disk = record {
           told = λ known. subst (λ (x : Option Files). IsSomeAnd x (λ files. Reads files p.now p.left)) (sym same) (h.disk.told known);
           images = λ known c i.
-              let o = look_images v w p (site_none view old p free h) k h.disk known c i in
+              let o = look_images v w p h.site k h.disk known c i in
               let b = some_both v.content _ _ (stands_told v p h.disk known) alike in
               (o.0, kept_among (fits found) p.outcomes o.0 o.1 (fits_alike found p.now o.0 (b.2 p.now o.0 c b.1 i o.2) ∙ now known), stands_by (has_failed_on p.site) c o.0 o.2);
-          standings = λ known. stand_by (has_failed_on p.site) w p.standings (look_standings v w p (site_none view old p free h) k h.disk known);
+          standings = λ known. stand_by (has_failed_on p.site) w p.standings (look_standings v w p h.site k h.disk known);
           shown = shown_same p.shown v.content w.content same h.disk.shown;
           known = λ sure. h.disk.known sure ∙ sym same;
           faults = refl;
           simulated = k.simulated ∙ h.disk.simulated;
         };
         site = h.site;
-        held = none_held view (record { disk = disk; site = old.site }) q free;
+        held = tt;
       },
     )
 
 -- a call failed, or there was no memory
-looked_before : {D : Type 0} (leftovers : Leftovers) (view : D → View) (old : Slot D) (disk : D) (p : Place) → IsLook (view old.disk) (view disk) → old.site ≡ None → IsPlace view old p
+looked_before : {D : Type 0} (leftovers : Leftovers) (view : D → View) (d disk : D) (p : Place) → IsLook (view d) (view disk) → IsPlace view (Free d) p
     → (now : Contents) × (left : Leftover) × (p.told ≡ true → Among p.outcomes now) × (p.told ≡ true → IsBehind now left)
-    × IsPlace view (record { disk = disk; site = old.site }) (record { site = p.site; told = p.told; now = now; left = left; outcomes = p.outcomes; standings = p.standings; shown = (view disk).content; faults = (view disk).faults; simulated = p.simulated })
-looked_before leftovers view old disk p k free h =
-    let v = view old.disk in
+    × IsPlace view (Free disk) (record { site = p.site; told = p.told; now = now; left = left; outcomes = p.outcomes; standings = p.standings; shown = (view disk).content; faults = (view disk).faults; simulated = p.simulated })
+looked_before leftovers view d disk p k h =
+    let v = view d in
     let w = view disk in
-    let m = place_of_images leftovers w p p.site p.outcomes p.standings k.lawful (k.simulated ∙ h.disk.simulated) (λ known. k.still_told (told_is v.content _ (h.disk.told known))) (λ known c i. look_images v w p (site_none view old p free h) k h.disk known c i) (λ known. look_standings v w p (site_none view old p free h) k h.disk known) in
+    let m = place_of_images leftovers w p p.site p.outcomes p.standings k.lawful (k.simulated ∙ h.disk.simulated) (λ known. k.still_told (told_is v.content _ (h.disk.told known))) (λ known c i. look_images v w p h.site k h.disk known c i) (λ known. look_standings v w p h.site k h.disk known) in
     let q : Place = record { site = p.site; told = p.told; now = m.now; left = m.left; outcomes = p.outcomes; standings = p.standings; shown = w.content; faults = w.faults; simulated = p.simulated } in
-    (m.now, m.left, m.among, m.behind, record { disk = m.matches; site = h.site; held = none_held view (record { disk = disk; site = old.site }) q free })
+    (m.now, m.left, m.among, m.behind, record { disk = m.matches; site = h.site; held = tt })
 
 abbrev pub Unread : SiteError → View → View → Type 0
 Unread (Failed fault) v w = (fault ≡ w.faults) × Rose v.faults w.faults
@@ -157,21 +150,21 @@ Unread (NeedForward needing) v w = Unit {0}
 Unread (NotAFile file offset) v w = IfSome v.content (λ files. (c : Contents) → Stands files c → ⊥) × IfSome v.content (IsNoSite file offset)
 Unread NoMemory v w = Unit {0}
 
-left_so : {D : Type 0} (leftovers : Leftovers) (view : D → View) (old : Slot D) (disk : D) → IsLook (view old.disk) (view disk) → old.site ≡ None → (p : Place) → IsPlace view old p
-    → (q : Place) × LeavesOld p q × IsPlace view (record { disk = disk; site = old.site }) q
-left_so leftovers view old disk k free p h =
-    let m = looked_before leftovers view old disk p k free h in
+left_so : {D : Type 0} (leftovers : Leftovers) (view : D → View) (d disk : D) → IsLook (view d) (view disk) → (p : Place) → IsPlace view (Free d) p
+    → (q : Place) × LeavesOld p q × IsPlace view (Free disk) q
+left_so leftovers view d disk k p h =
+    let m = looked_before leftovers view d disk p k h in
     (record { site = p.site; told = p.told; now = m.0; left = m.1; outcomes = p.outcomes; standings = p.standings; shown = (view disk).content; faults = (view disk).faults; simulated = p.simulated }, record { told = refl; outcomes = λ known o a. a; standings = λ known. stand_same p.standings; faults = omega (arith, k.later, h.disk.faults); simulated = refl }, m.4)
 
-saw_nothing : {D : Type 0} (leftovers : Leftovers) (view : D → View) (old : Slot D) (disk : D) (e : SiteError) → IsLook (view old.disk) (view disk) → old.site ≡ None → (view disk).content ≡ (view old.disk).content → Unread e (view old.disk) (view disk) → LooksHere view old (record { disk = disk; site = old.site }) (Err e)
-saw_nothing leftovers view old disk (Failed fault) k free same u p h =
+saw_nothing : {D : Type 0} (leftovers : Leftovers) (view : D → View) (d disk : D) (e : SiteError) → IsLook (view d) (view disk) → (view disk).content ≡ (view d).content → Unread e (view d) (view disk) → LooksHere view (Free d) (Free disk) (Err e)
+saw_nothing leftovers view d disk (Failed fault) k same u p h =
     let w = view disk in
-    let m = looked_before leftovers view old disk p k free h in
+    let m = looked_before leftovers view d disk p k h in
     let q : Place = record { site = p.site; told = p.told; now = m.0; left = m.1; outcomes = p.outcomes; standings = p.standings; shown = w.content; faults = w.faults; simulated = p.simulated } in (
       q,
       (
         record {
-          site = site_none view old p free h;
+          site = h.site;
           known = record { told = refl; now = λ known. (m.0, m.2 known, refl); left = m.3; outcomes = λ known o a. (o, a, refl); standings = λ known. stand_same p.standings };
           count = sym u.0;
           rose = subst (λ (x : ℕ). Rose p.faults x) (sym u.0) (subst (λ (x : ℕ). Rose x w.faults) h.disk.faults u.1);
@@ -181,8 +174,8 @@ saw_nothing leftovers view old disk (Failed fault) k free same u p h =
       ),
       m.4,
     )
-saw_nothing leftovers view old disk (NotAFile file offset) k free same u p h =
-    let v = view old.disk in
+saw_nothing leftovers view d disk (NotAFile file offset) k same u p h =
+    let v = view d in
     let w = view disk in
     let unknown : p.told ≡ false = not_true p.told (λ known. let b = some_both v.content _ _ (stands_told v p h.disk known) u.0 in b.2 p.now b.1) in
     let q : Place = record { site = p.site; told = p.told; now = p.now; left = p.left; outcomes = p.outcomes; standings = p.standings; shown = p.shown; faults = w.faults; simulated = p.simulated } in (
@@ -202,16 +195,16 @@ saw_nothing leftovers view old disk (NotAFile file offset) k free same u p h =
           simulated = k.simulated ∙ h.disk.simulated;
         };
         site = h.site;
-        held = none_held view (record { disk = disk; site = old.site }) q free;
+        held = tt;
       },
     )
-saw_nothing leftovers view old disk (Stopped fault) k free same u p h = left_so leftovers view old disk k free p h
-saw_nothing leftovers view old disk (Full nodes) k free same u p h = left_so leftovers view old disk k free p h
-saw_nothing leftovers view old disk SeqLimit k free same u p h = left_so leftovers view old disk k free p h
-saw_nothing leftovers view old disk GenLimit k free same u p h = left_so leftovers view old disk k free p h
-saw_nothing leftovers view old disk ReignLimit k free same u p h = left_so leftovers view old disk k free p h
-saw_nothing leftovers view old disk (NeedForward needing) k free same u p h = left_so leftovers view old disk k free p h
-saw_nothing leftovers view old disk NoMemory k free same u p h = left_so leftovers view old disk k free p h
+saw_nothing leftovers view d disk (Stopped fault) k same u p h = left_so leftovers view d disk k p h
+saw_nothing leftovers view d disk (Full nodes) k same u p h = left_so leftovers view d disk k p h
+saw_nothing leftovers view d disk SeqLimit k same u p h = left_so leftovers view d disk k p h
+saw_nothing leftovers view d disk GenLimit k same u p h = left_so leftovers view d disk k p h
+saw_nothing leftovers view d disk ReignLimit k same u p h = left_so leftovers view d disk k p h
+saw_nothing leftovers view d disk (NeedForward needing) k same u p h = left_so leftovers view d disk k p h
+saw_nothing leftovers view d disk NoMemory k same u p h = left_so leftovers view d disk k p h
 
 -- what a look leaves is old, whatever it saw
 sees_old : (r : Result (Option Layout) SiteError) (p q : Place) → Sees r p q → LeavesOld p q
@@ -233,22 +226,22 @@ looked_cut view old new row r look p h =
     let left = sees_old r p q.0 q.1 in
     (q.0, record { told = left.told; outcomes = λ known o a. inl (left.outcomes known o a); standings = λ known. left_old (row p).left_so p.standings q.0.standings (left.standings known); faults = left.faults; simulated = left.simulated }, q.2.disk)
 
-pub looks : {D : Type 0} (leftovers : Leftovers) (view : D → View) (old : Slot D) (disk : D) (r : Result (Option Layout) SiteError) → IsLook (view old.disk) (view disk) → old.site ≡ None
-    → IfOk r (λ found. IfSome (view old.disk).content (λ files. (c : Contents) → Stands files c → IsFound c found))
-    → (view disk).content ≡ (view old.disk).content
-    → OnOk r (IfSome (view old.disk).content (λ files. (c o : Contents) (f : Files) → Stands files c → Image (view disk) f → Stands f o → o.instance ≡ c.instance))
-    → IfOk r (λ found. IfSome (view old.disk).content (IsFoundBy found))
-    → ((file offset : ℕ) → IsErrOf r (NotAFile file offset) → IfSome (view old.disk).content (λ files. (c : Contents) → Stands files c → ⊥))
-    → ((file offset : ℕ) → IsErrOf r (NotAFile file offset) → IfSome (view old.disk).content (IsNoSite file offset))
-    → ((fault : ℕ) → IsErrOf r (Failed fault) → fault ≡ (view disk).faults) → ((fault : ℕ) → IsErrOf r (Failed fault) → Rose (view old.disk).faults (view disk).faults)
-    → LooksHere view old (record { disk = disk; site = old.site }) r
-looks leftovers view old disk (Ok found) k free is same alike holds outside bytes count cause = saw view old disk found k free is same alike holds
-looks leftovers view old disk (Err (Failed fault)) k free is same alike holds outside bytes count cause = saw_nothing leftovers view old disk (Failed fault) k free same (count fault refl, cause fault refl)
-looks leftovers view old disk (Err (Stopped fault)) k free is same alike holds outside bytes count cause = saw_nothing leftovers view old disk (Stopped fault) k free same tt
-looks leftovers view old disk (Err (Full nodes)) k free is same alike holds outside bytes count cause = saw_nothing leftovers view old disk (Full nodes) k free same tt
-looks leftovers view old disk (Err SeqLimit) k free is same alike holds outside bytes count cause = saw_nothing leftovers view old disk SeqLimit k free same tt
-looks leftovers view old disk (Err GenLimit) k free is same alike holds outside bytes count cause = saw_nothing leftovers view old disk GenLimit k free same tt
-looks leftovers view old disk (Err ReignLimit) k free is same alike holds outside bytes count cause = saw_nothing leftovers view old disk ReignLimit k free same tt
-looks leftovers view old disk (Err (NeedForward needing)) k free is same alike holds outside bytes count cause = saw_nothing leftovers view old disk (NeedForward needing) k free same tt
-looks leftovers view old disk (Err (NotAFile file offset)) k free is same alike holds outside bytes count cause = saw_nothing leftovers view old disk (NotAFile file offset) k free same (outside file offset refl, bytes file offset refl)
-looks leftovers view old disk (Err NoMemory) k free is same alike holds outside bytes count cause = saw_nothing leftovers view old disk NoMemory k free same tt
+pub looks : {D : Type 0} (leftovers : Leftovers) (view : D → View) (d disk : D) (r : Result (Option Layout) SiteError) → IsLook (view d) (view disk)
+    → IfOk r (λ found. IfSome (view d).content (λ files. (c : Contents) → Stands files c → IsFound c found))
+    → (view disk).content ≡ (view d).content
+    → OnOk r (IfSome (view d).content (λ files. (c o : Contents) (f : Files) → Stands files c → Image (view disk) f → Stands f o → o.instance ≡ c.instance))
+    → IfOk r (λ found. IfSome (view d).content (IsFoundBy found))
+    → ((file offset : ℕ) → IsErrOf r (NotAFile file offset) → IfSome (view d).content (λ files. (c : Contents) → Stands files c → ⊥))
+    → ((file offset : ℕ) → IsErrOf r (NotAFile file offset) → IfSome (view d).content (IsNoSite file offset))
+    → ((fault : ℕ) → IsErrOf r (Failed fault) → fault ≡ (view disk).faults) → ((fault : ℕ) → IsErrOf r (Failed fault) → Rose (view d).faults (view disk).faults)
+    → LooksHere view (Free d) (Free disk) r
+looks leftovers view d disk (Ok found) k is same alike holds outside bytes count cause = saw view d disk found k is same alike holds
+looks leftovers view d disk (Err (Failed fault)) k is same alike holds outside bytes count cause = saw_nothing leftovers view d disk (Failed fault) k same (count fault refl, cause fault refl)
+looks leftovers view d disk (Err (Stopped fault)) k is same alike holds outside bytes count cause = saw_nothing leftovers view d disk (Stopped fault) k same tt
+looks leftovers view d disk (Err (Full nodes)) k is same alike holds outside bytes count cause = saw_nothing leftovers view d disk (Full nodes) k same tt
+looks leftovers view d disk (Err SeqLimit) k is same alike holds outside bytes count cause = saw_nothing leftovers view d disk SeqLimit k same tt
+looks leftovers view d disk (Err GenLimit) k is same alike holds outside bytes count cause = saw_nothing leftovers view d disk GenLimit k same tt
+looks leftovers view d disk (Err ReignLimit) k is same alike holds outside bytes count cause = saw_nothing leftovers view d disk ReignLimit k same tt
+looks leftovers view d disk (Err (NeedForward needing)) k is same alike holds outside bytes count cause = saw_nothing leftovers view d disk (NeedForward needing) k same tt
+looks leftovers view d disk (Err (NotAFile file offset)) k is same alike holds outside bytes count cause = saw_nothing leftovers view d disk (NotAFile file offset) k same (outside file offset refl, bytes file offset refl)
+looks leftovers view d disk (Err NoMemory) k is same alike holds outside bytes count cause = saw_nothing leftovers view d disk NoMemory k same tt

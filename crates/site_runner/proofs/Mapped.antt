@@ -5,13 +5,15 @@ use Rattle.std.specs.Fmt.{decimal}
 use Rattle.std.proofs.lemmas.Bool.{false≢true}
 use Rattle.disk_defs.specs.Disk.{Files, View, Image, IsLawful, AtEachMoment, Rose}
 use Rattle.journal_defs.specs.Instance.{InstanceRecord, generation, regions}
-use Rattle.site_store.specs.Opening.{StandsAsBefore, MayHavePattern, EachStands}
+use Rattle.site_store.specs.Opening.{EachStands}
+use Rattle.site_making.specs.Finding.{StandsAsBefore}
+use Rattle.site_making.specs.Mapping.{MayHavePattern}
 use Rattle.command_defs.specs.Commands.{Name}
 use Rattle.site_defs.specs.Lists.{Among, first_where}
 use Rattle.world_defs.specs.World as world
 use Rattle.world_defs.specs.World.{Place, has_failed_on, IfShown, StandAfter}
 use Rattle.site_defs.specs.Contents.{Contents, Leftover, Standing, NO_LEFTOVER, is_made, same_name, bare}
-use Rattle.world_defs.specs.Answers.{Cause, Running, Stopped, Refusal, line, cause_text}
+use Rattle.world_defs.specs.Answers.{Cause, Refusal, line, cause_text}
 use Rattle.world_defs.specs.Shown.{HasNoLayout, IsOfAnother}
 use Rattle.world_defs.specs.Row.{refused_with, in_state, why_not_down}
 use Rattle.site_defs.specs.Limits.{region_number}
@@ -22,28 +24,16 @@ use Rattle.world_defs.specs.rows.Map.{MayMapLeft, IsUnmapped, unmapped, RefusedB
 use Rattle.world_defs.specs.Ties.{Matches}
 use Rattle.site_defs.specs.Stands.{IsSite, HasLeft, Stands, Reads}
 use Rattle.site_defs.specs.Behind.{StandsSo}
-use Rattle.site_runner.specs.declared.slot.State.{State}
-use Rattle.site_runner.specs.declared.slot.State.TheVariants.{Down, Failed}
-use Rattle.site_runner.specs.declared.slot.Site.{Site}
-use Rattle.site_runner.specs.Sites.{state_value, site_value, HoldsState, IsOf, IsMade}
+use Rattle.site_runner.specs.Sites.{state_value, site_value, HoldsState, IsOf, IsMade, State, Down, Failed, Site}
 use Rattle.site_runner.specs.Executes.{Comes}
 use Rattle.site_runner.specs.Steps.{IsAt, ExecutesAt, IsCutAt}
 use Rattle.site_runner.specs.Mapping.{IsSeenAt, IsUnmappedIn, MapsAt, IsCutSeen}
-use Rattle.site_runner.proofs.Ats.{comes_done, comes_refused, comes_may_refuse, comes_fault, comes_damaged, refused_late, none_refused, state_at, not_true, is_true_or_false, some_both, some_of, some_and, told_is, reads_stand, reads_site, at_moment, Leftovers, ReadPlace, place_of_images, only}
-use Rattle.site_runner.proofs.Ats.{stands_by, stands_so_by, stand_by, up_down, images_of, standings_of, left_new, so_stands, ImagesStand, images_still, as_told, shown_same, by_shown, if_some, any_shown}
+use Rattle.site_runner.proofs.Ats.{comes_done, comes_refused, comes_may_refuse, comes_fault, comes_damaged, refused_late, none_refused, not_true, is_true_or_false, some_both, some_of, some_and, told_is, reads_stand, reads_site, at_moment, Leftovers, ReadPlace, place_of_images, only}
+use Rattle.site_runner.proofs.Ats.{stands_by, stands_so_by, stand_by, up_down, images_of, standings_of, left_new, so_stands, ImagesStand, images_still, as_told, shown_same, by_shown, if_some}
 use Rattle.site_runner.proofs.Seen.{counted, kept_counted}
 use Rattle.site_runner.proofs.Amongs.{among_first, among_second, among_either}
 use Rattle.site_runner.proofs.Started.{why_at}
 use Rattle.site_runner.proofs.Patterns.{maps, among_maps, maps_among, of_pattern, of_may_map, generation_map, unmapped_unknown, not_refused}
-
-pub map_not_down : (v : View) (s : Site) (region : Name) (text : List ℕ) (cause : Cause) (p : Place) → why_not_down (state_value s.state) ≡ Some cause → IsAt v s p → (map_pattern region text s.name p).early ≡ refused_with s.name (Some cause)
-map_not_down v s region text cause p e h = ap (refused_with s.name) (state_at why_not_down v s p h ∙ e)
-
--- which no file decides
-pub map_early : (region : Name) (text : List ℕ) (name : Name) (state : world.State) (cause : Cause) (p : Place) → why_not_down state ≡ Some cause → IfShown p (RefusedBy region text name cause)
-map_early region text name world.Down cause p e = cc
-map_early region text name (world.Primary stamp serials) cause p e = let same : Running ≡ cause = cc in subst (λ (c : Cause). IfShown p (RefusedBy region text name c)) same (any_shown p.shown)
-map_early region text name (world.Failed k) cause p e = let same : Stopped k ≡ cause = cc in subst (λ (c : Cause). IfShown p (RefusedBy region text name c)) same (any_shown p.shown)
 
 -- the tests of a site that is down
 

@@ -1,43 +1,43 @@
 -- EPOCH and STOP at a place: what bringing a site to an epoch leaves there.
 use Rattle.std.proofs.Common.{◌≡◌, ℕ, zero, suc, ◌≤◌, ◌<◌, ◌&&◌, nat_lt, Bool, true, false, List, [], ◌∷◌, ◌++◌, length, map, None, Some, refl, sym, ◌∙◌, ap, subst, arith, inl, inr, if◌then◌else◌}
-use Rattle.std.specs.Prelude.{◌⊎◌, Option, codes, IsSome}
+use Rattle.std.specs.Prelude.{◌⊎◌, Option, codes, IsSome, IsSomeAnd, Result, Ok, Err, IfOk, OnOk, OnErr, IsErrOf}
 use Rattle.std.specs.Fmt.{decimal}
 use Rattle.std.specs.List.{flat_map}
 use Rattle.std.proofs.Math.Path.{fun_ext}
 use Rattle.std.proofs.lemmas.Bool.{ltb-true}
 use Rattle.disk_defs.specs.Disk.{Files, View, Image, IsLawful, AtEachMoment, Rose}
-use Rattle.site_store.specs.declared.site.OpenSite.{OpenSite}
+use Rattle.site_store.specs.declared.memory.Memory.{Memory}
 use Rattle.journal_defs.specs.Instance.{generation, regions}
 use Rattle.site_store.specs.Needing.{NoneNeeds}
 use Rattle.site_store.specs.Site.{IsOpen, count_of}
 use Rattle.site_store.proofs.Standing.{reads_of}
-use Rattle.repl_section.specs.declared.reign.Reign.{Reign}
-use Rattle.repl_section.specs.Reigns.{stamp_in, stamp_of}
+use Rattle.repl_section.specs.Reigns.{stamp_in}
 use Rattle.command_defs.specs.Commands.{Name}
 use Rattle.site_defs.specs.Lists.{Among}
 use Rattle.site_defs.specs.Contents.{Taken, Contents, Standing, NO_LEFTOVER, bare}
 use Rattle.site_defs.specs.Epochs.{taken_in, with_epochs, marked, MayMark, MayMarkLeft}
-use Rattle.site_defs.specs.Stands.{IsSite}
+use Rattle.site_defs.specs.Stands.{IsSite, Reads}
+use Rattle.gvn_key.specs.declared.bytes.NoMemory.{NoMemory}
+use Rattle.site_store.specs.declared.error.SiteError.{SiteError}
+use Rattle.site_store.specs.declared.error.SiteError.TheVariants as errors
+use Rattle.site_runner.specs.declared.ending.Ended.{Ended}
+use Rattle.site_runner.specs.declared.ending.Ended.TheVariants as ends
 use Rattle.site_defs.specs.Behind.{IsSiteWith}
 use Rattle.world_defs.specs.World as world
-use Rattle.world_defs.specs.World.{Place, has_failed, has_failed_on, StandAfter}
-use Rattle.world_defs.specs.Ties.{StandsBy}
+use Rattle.world_defs.specs.World.{Place, StandAfter}
 use Rattle.world_defs.specs.Answers.{Refusal, Answer, Done, Refused, DiskFault, NotAFile, Ran, Typed, line}
-use Rattle.world_defs.specs.Row as rows
-use Rattle.world_defs.specs.Row.{or_else, refused_with, why_not_open, Here}
+use Rattle.world_defs.specs.Row.{or_else, Here}
 use Rattle.world_defs.specs.Changes.{in_new_state, After}
 use Rattle.world_defs.specs.Shown.{BySequence}
 use Rattle.world_defs.specs.Without.{NoneIsWithout}
 use Rattle.world_defs.specs.Step.{is_done}
 use Rattle.world_defs.specs.rows.Stop.{stop}
-use Rattle.site_runner.specs.declared.slot.State.TheVariants.{Down, Primary, Failed}
-use Rattle.site_runner.specs.declared.slot.Site.{Site}
-use Rattle.site_runner.specs.Sites.{state_value, IsOf}
+use Rattle.site_runner.specs.Sites.{state_value, IsOf, Down, Primary, Failed, Site, Reign, stamp_of}
 use Rattle.site_runner.specs.Executes.{Comes}
 use Rattle.site_runner.specs.Steps.{in_state, IsAt, ExecutesAt, IsCutAt}
 use Rattle.site_runner.specs.Marking.{marking}
 use Rattle.site_runner.proofs.Amongs.{among_map, map_among, among_flat}
-use Rattle.site_runner.proofs.Ats.{comes_done, comes_fault, at_moment, some_outcome, told_is, Leftovers, NothingIsLeft, ReadPlace, place_of_images, place_of_one, only, open_site, open_reads, open_images, stands_with, stands_by, stand_by, StandBy, images_of, standings_of}
+use Rattle.site_runner.proofs.Ats.{comes_done, comes_fault, at_moment, some_outcome, told_is, reads_image, Leftovers, NothingIsLeft, ReadPlace, place_of_images, place_of_one, only, open_site, open_reads, open_images, stands_with}
 use Rattle.site_runner.proofs.Remembered.{entries_count}
 use Rattle.site_runner.proofs.Stopped.{open_at, reigns_at, open_at_place}
 
@@ -110,14 +110,17 @@ left_are c o h =
       | inr m ↦ inr (m.0, x.2 ∙ ap bare m.1)
     ]
 
+marked_in : (c : Contents) (o : Standing) → MayMarkLeft (bare c) o → MayMark c o.contents
+marked_in c o (inl e) = inl (ap (λ (x : Standing). x.contents) e)
+marked_in c o (inr m) = inr (m.0, ap (λ (x : Standing). x.contents) m.1)
+
 pub of_marked : (name : Name) (c o : Contents) → MayMark c o → IsOf name c → IsOf name o
 of_marked name c o (inl e) h = subst (IsOf name) (sym e) h
 of_marked name c o (inr m) h = subst (IsOf name) (sym m.1) (record { made = h.made; name = h.name })
 
 -- what the call says of each moment, and of the disk after it
-pub record Moments (v w : View) (o : OpenSite) : Type 1 where
+pub record Moments (v w : View) (o : Memory) : Type 1 where
   pub lawful : IsLawful w
-  pub any_moment : (c : Contents) → IsOpen v true c (length c.sequence) o → AtEachMoment v w (λ f. (x : Contents) × MayMark c x × IsSite f x)
   pub left : (c : Contents) → IsOpen v true c (length c.sequence) o → AtEachMoment v w (λ f. (x : Standing) × MayMarkLeft (bare c) x × IsSiteWith f x)
   pub still_told : IsSome v.content → IsSome w.content
   pub simulated : w.simulated ≡ v.simulated
@@ -133,7 +136,7 @@ marked_place : (leftovers : Leftovers) (v w : View) (s : Site) (r : Reign) (p : 
 marked_place leftovers v w s r p site e m h =
     place_of_images leftovers w p site (marks p.now) (Some (map bare (marks p.now))) m.lawful (m.simulated ∙ h.disk.simulated)
     (λ sure. m.still_told (told_is v.content _ (h.disk.told sure)))
-    (λ sure f i. let x = at_moment v w _ f m.lawful (m.any_moment p.now (known_open v s r p e h sure)) i in (x.0, among_marks p.now x.0 x.1, inr x.2))
+    (λ sure f i. let x = at_moment v w _ f m.lawful (m.left p.now (known_open v s r p e h sure)) i in (x.0.contents, among_marks p.now x.0.contents (marked_in p.now x.0 x.1), inr x.2.site))
     (λ sure f i. let x = at_moment v w _ f m.lawful (m.left p.now (known_open v s r p e h sure)) i in (x.0, among_left p.now x.0 x.1, stands_with f x.0 x.2))
 
 -- an outcome there was, after a step
@@ -193,11 +196,11 @@ mark_faulted leftovers word v w s r k before now was e m count rose t p h =
     })
     t
 
-pub marks_at : (word : List ℕ) (v w : View) (nothing : NothingIsLeft w) (s : Site) (r new : Reign) (count : ℕ) (before now : List ℕ) → IsLawful w → s.state ≡ Primary r → new.site.stamp ≡ r.site.stamp → new.serials ≡ r.serials → w.simulated ≡ v.simulated → v.faults ≤ w.faults
+pub marks_at : (word : List ℕ) (v w : View) (s : Site) (r new : Reign) (nothing : NothingIsLeft w new.site) (count : ℕ) (before now : List ℕ) → IsLawful w → s.state ≡ Primary r → new.site.stamp ≡ r.site.stamp → new.serials ≡ r.serials → w.simulated ≡ v.simulated → v.faults ≤ w.faults
     → ((told : Bool) (c : Contents) → IsOpen v told c (length c.sequence) r.site → IsOpen w told (marked c) (length c.sequence) new.site)
     → ((c : Contents) → IsOpen v true c (length c.sequence) r.site → (f : Files) → Image w f → NoneNeeds (length c.sequence) f) → count ≡ count_of r.site → now ≡ before ++ line s.name (word ++ decimal count)
     → ExecutesAt (marking word s.name) v s w (in_state s (Primary new)) before now true
-marks_at word v w nothing s r new count before now law e stamped serials same later f none counts t p h =
+marks_at word v w s r new nothing count before now law e stamped serials same later f none counts t p h =
     let was = reigns_at v s r p e h in
     let c : Contents = marked p.now in
     let is_open : IsOpen w p.told c (length c.sequence) new.site = f p.told p.now was in
@@ -212,7 +215,7 @@ marks_at word v w nothing s r new count before now law e stamped serials same la
     )
     tt
     (record {
-      disk = place_of_one w p p.site c (same ∙ h.disk.simulated) (λ sure. open_reads w nothing p.told c new.site law sure is_open) (λ sure. open_images w nothing p.told c new.site sure is_open);
+      disk = place_of_one w p p.site c (same ∙ h.disk.simulated) (λ sure. open_reads w new.site nothing p.told c law sure is_open) (λ sure. open_images w new.site nothing p.told c sure is_open);
       site = h.site ∙ ap (λ (x : world.State). Some (record { name = s.name; state = x })) (ap state_value e ∙ ap (λ (x : Option _). world.Primary (stamp_in x) r.serials) (sym stamped) ∙ ap (λ (x : List ℕ). world.Primary (stamp_of new) x) (sym serials));
       held = record {
         made = λ sure. record { now = of sure; outcomes = λ x j. subst (IsOf s.name) (sym (only x c j)) (of sure) };
@@ -221,60 +224,57 @@ marks_at word v w nothing s r new count before now law e stamped serials same la
     })
     (t ∙ ap (λ (n : ℕ). before ++ line s.name (word ++ decimal n)) (counts ∙ entries_count p.now (length p.now.sequence) r.site was.remembered))
 
--- A site that was brought to an epoch is closed by nothing more.
+-- A site that was closed.
 
--- the site behind STOP, by whether it was brought to an epoch
-abbrev pub stopped_if : Bool → Site → Site
-stopped_if true s = in_state s Down
-stopped_if false s = s
-
--- no call of the disk of a site that is open has failed
-open_state : (name : Name) (state : world.State) → or_else (refused_with name (why_not_open state)) None ≡ None → has_failed state ≡ false
-open_state name world.Down e = refl
-open_state name (world.Primary stamp serials) e = refl
-open_state name (world.Failed k) e = cc
-
-not_failed : (name : Name) (o : Option world.Site) → or_else (refused_with name (rows.in_state why_not_open o)) None ≡ None → has_failed_on o ≡ false
-not_failed name None e = refl
-not_failed name (Some site) e = open_state name site.state e
-
-down_there : (name : Name) (w : View) (new : Site) (p q : Place) (before now : List ℕ) → or_else (marking (codes "DOWN ") name p).early None ≡ None → (marking (codes "DOWN ") name p).done q → IsAt w new q
-    → now ≡ before ++ (marking (codes "DOWN ") name p).says q → Comes (stop name p) (IsAt w (in_state new Down)) before now true
-down_there name w new p q before now e d h t =
-    let up : has_failed_on q.site ≡ false = ap has_failed_on d.0.site ∙ not_failed name p.site e in
-    let site : Option world.Site = in_new_state world.Down q.site in
-    let images : q.told ≡ true → (f : Files) → Image w f → (o : Contents) × Among q.outcomes o × StandsBy (has_failed_on site) f o = λ sure f i. (let o = images_of w q up h.disk sure f i in (o.0, o.1, stands_by (has_failed_on site) f o.0 o.2)) in
-    let standings : q.told ≡ true → StandBy (has_failed_on site) w q.standings = λ sure. stand_by (has_failed_on site) w q.standings (standings_of w q up h.disk sure) in
+pub stops_at : (v w : View) (s : Site) (r : Reign) (count : ℕ) (before now : List ℕ) → IsLawful w → s.state ≡ Primary r → (IsSome v.content → IsSome w.content) → w.simulated ≡ v.simulated → v.faults ≤ w.faults
+    → ((c : Contents) → IsOpen v true c (length c.sequence) r.site → (f : Files) → Image w f → IsSiteWith f (bare (marked c)))
+    → ((c : Contents) → IsOpen v true c (length c.sequence) r.site → (f : Files) → Image w f → NoneNeeds (length c.sequence) f) → count ≡ count_of r.site → now ≡ before ++ line s.name (codes "DOWN " ++ decimal count)
+    → ExecutesAt (stop s.name) v s w (in_state s Down) before now true
+stops_at v w s r count before now law e told same later stands none counts t p h =
+    let c : Contents = marked p.now in
+    let was = known_open v s r p e h in
+    let site : Option world.Site = in_new_state world.Down p.site in
+    let of : p.told ≡ true → IsOf s.name c = λ sure. record { made = (h.held.made sure).now.made; name = (h.held.made sure).now.name } in
     comes_done
-    (record { site = in_new_state world.Down q.site; told = q.told; now = q.now; left = q.left; outcomes = q.outcomes; standings = q.standings; shown = q.shown; faults = q.faults; simulated = q.simulated })
-    e (
-      record {
-        site = ap (in_new_state world.Down) d.0.site;
-        known = record { told = d.0.known.told; now = d.0.known.now; left = d.0.known.left; outcomes = d.0.known.outcomes; standings = d.0.known.standings };
-        faults = d.0.faults;
-        simulated = d.0.simulated;
-      },
-      d.1,
+    (record { site = site; told = p.told; now = c; left = NO_LEFTOVER; outcomes = c ∷ []; standings = Some (bare c ∷ []); shown = w.content; faults = w.faults; simulated = p.simulated })
+    (ap (λ (x : Option Refusal). or_else x None) (open_at_place v s r p e h)) (
+      record { site = refl; known = record { told = refl; now = refl; left = refl; outcomes = refl; standings = refl }; faults = omega (arith, later, h.disk.faults); simulated = refl },
+      λ sure. reads_of w (BySequence (λ u seq. NoneIsWithout u (length seq))) law (λ f i.
+          let x = stands p.now (was sure) f i in
+          (x.site.records, c.sequence, x.site.image.held, x.site.image.sequence, none p.now (was sure) f i x.site.records x.site.image.held)),
     )
     tt
     (record {
-      disk = record { told = h.disk.told; images = images; standings = standings; shown = h.disk.shown; known = h.disk.known; faults = h.disk.faults; simulated = h.disk.simulated };
+      disk = place_of_one w p site c (same ∙ h.disk.simulated)
+          (λ sure. reads_there w c law (told (told_is v.content _ (h.disk.told sure))) (stands p.now (was sure)))
+          (λ sure f i. stands_with f (bare c) (stands p.now (was sure) f i));
       site = ap (in_new_state world.Down) h.site;
-      held = record { made = λ sure. record { now = (h.held.made sure).now; outcomes = (h.held.made sure).outcomes }; state = tt };
+      held = record { made = λ sure. record { now = of sure; outcomes = λ x j. subst (IsOf s.name) (sym (only x c j)) (of sure) }; state = tt };
     })
-    t
+    (t ∙ ap (λ (n : ℕ). before ++ line s.name (codes "DOWN " ++ decimal n)) (counts ∙ entries_count p.now (length p.now.sequence) r.site (reigns_at v s r p e h).remembered))
+  where
+    reads_there : (w : View) (c : Contents) → IsLawful w → IsSome w.content → ((f : Files) → Image w f → IsSiteWith f (bare c)) → IsSomeAnd w.content (λ files. Reads files c NO_LEFTOVER)
+    reads_there w c law told stands =
+        let r = reads_image w law told in
+        let x = stands r.0 r.2 in
+        subst (λ (o : Option Files). IsSomeAnd o (λ files. Reads files c NO_LEFTOVER)) (sym r.1) (inr (x.site, x.left))
 
--- what it answers is what the epoch answered
-stops_by : (name : Name) (w : View) (new : Site) (p q : Place) (before now text : List ℕ) (a : Answer) → Here (marking (codes "DOWN ") name p) a q text → IsAt w new q → now ≡ before ++ text
-    → Comes (stop name p) (IsAt w (stopped_if (is_done a) new)) before now (is_done a)
-stops_by name w new p q before now text Done h at t = down_there name w new p q before now h.0 h.1 at (t ∙ ap (λ (x : List ℕ). before ++ x) h.2)
-stops_by name w new p q before now text (Refused r) h at t = record { answer = Refused r; becomes = q; text = text; here = h; there = at; written = t; done = refl }
-stops_by name w new p q before now text (DiskFault k) h at t = record { answer = DiskFault k; becomes = q; text = text; here = h; there = at; written = t; done = refl }
-stops_by name w new p q before now text (NotAFile file offset) h at t = record { answer = NotAFile file offset; becomes = q; text = text; here = h; there = at; written = t; done = refl }
-stops_by name w new p q before now text (Ran s) h at t = record { answer = Ran s; becomes = q; text = text; here = h; there = at; written = t; done = refl }
-stops_by name w new p q before now text (Typed bytes) h at t = record { answer = Typed bytes; becomes = q; text = text; here = h; there = at; written = t; done = refl }
+-- what STOP answers where a site wasn't brought to an epoch is what EPOCH answers
+stops_by : (name : Name) (w : View) (new : Site) (p q : Place) (before now text : List ℕ) (a : Answer) → is_done a ≡ false → Here (marking (codes "DOWN ") name p) a q text → IsAt w new q → now ≡ before ++ text → Comes (stop name p) (IsAt w new) before now false
+stops_by name w new p q before now text Done e h at t = cc
+stops_by name w new p q before now text (Refused r) e h at t = record { answer = Refused r; becomes = q; text = text; here = h; there = at; written = t; done = refl }
+stops_by name w new p q before now text (DiskFault k) e h at t = record { answer = DiskFault k; becomes = q; text = text; here = h; there = at; written = t; done = refl }
+stops_by name w new p q before now text (NotAFile file offset) e h at t = record { answer = NotAFile file offset; becomes = q; text = text; here = h; there = at; written = t; done = refl }
+stops_by name w new p q before now text (Ran s) e h at t = record { answer = Ran s; becomes = q; text = text; here = h; there = at; written = t; done = refl }
+stops_by name w new p q before now text (Typed bytes) e h at t = record { answer = Typed bytes; becomes = q; text = text; here = h; there = at; written = t; done = refl }
 
-pub stops : (v w : View) (s new : Site) (before now : List ℕ) (done : Bool) → ExecutesAt (marking (codes "DOWN ") s.name) v s w new before now done → ExecutesAt (stop s.name) v s w (stopped_if done new) before now done
-stops v w s new before now done x p h =
-    let r = x p h in
-    subst (λ (b : Bool). Comes (stop s.name p) (IsAt w (stopped_if b new)) before now b) r.done (stops_by s.name w new p r.becomes before now r.text r.answer r.here r.there r.written)
+pub stops : (v w : View) (s new : Site) (before now : List ℕ) → ExecutesAt (marking (codes "DOWN ") s.name) v s w new before now false → ExecutesAt (stop s.name) v s w new before now false
+stops v w s new before now x p h = let r = x p h in stops_by s.name w new p r.becomes before now r.text r.answer r.done r.here r.there r.written
+
+-- What was told of an epoch.
+pub told_so : {U : Type 0} (taken : Result U SiteError) (ended : Result Ended NoMemory) (T : Type 0) (F : ℕ → Type 0) (P : Ended → Type 0) → OnOk taken (IfOk ended (λ e. (e ≡ ends.Done) × T))
+    → OnErr taken (IfOk ended (λ e. (k : ℕ) × IsErrOf taken (errors.Failed k) × (e ≡ ends.Failed k) × F k)) → ((u : U) → taken ≡ Ok u → T → P ends.Done) → ((k : ℕ) → IsErrOf taken (errors.Failed k) → F k → P (ends.Failed k)) → IfOk ended P
+told_so (Ok u) (Ok e) T F P done failed f g = subst P (sym done.0) (f u refl done.1)
+told_so (Ok u) (Err n) T F P done failed f g = tt
+told_so (Err x) (Ok e) T F P done failed f g = subst P (sym failed.2) (g failed.0 failed.1 failed.3)
+told_so (Err x) (Err n) T F P done failed f g = tt

@@ -20,15 +20,16 @@ use Rattle.site_defs.specs.Limits.{region_number}
 use Rattle.site_defs.specs.Opening.{with_mode, MaySetMode, MaySetModeLeft}
 use Rattle.site_defs.specs.Stands.{IsSite, HasLeft, Stands, Reads}
 use Rattle.site_defs.specs.Behind.{IsStanding}
-use Rattle.site_store.specs.declared.layout.FoundSite.{FoundSite}
+use Rattle.site_making.specs.declared.finding.FoundSite.{FoundSite}
 use Rattle.site_store.specs.declared.layout.Layout.{Layout}
 use Rattle.site_store.specs.Opening.{region_value}
 use Rattle.site_store.specs.Needing.{NoneNeeds}
-use Rattle.site_store.specs.Finding.{HasLayout, IsFoundIn}
+use Rattle.site_store.specs.Finding.{HasLayout}
+use Rattle.site_making.specs.Finding.{IsFoundIn}
 use Rattle.mupip_rollback.specs.Setting.{with_mode_left, MayHaveMode, MayHaveModeLeft, MayBeSet, MayBeSetWith, IsSetIn, StillNoneNeeds}
 use Rattle.world_defs.specs.World as world
 use Rattle.world_defs.specs.World.{Place, has_failed_on, IfShown, StandAfter}
-use Rattle.world_defs.specs.Answers.{Cause, NoRegion, Running, Stopped, Refusal, line}
+use Rattle.world_defs.specs.Answers.{NoRegion, Refusal, line}
 use Rattle.world_defs.specs.Shown.{HasNoLayout, IsOfAnother, BySequence}
 use Rattle.world_defs.specs.Without.{NoneIsWithout, IsWithoutNeed}
 use Rattle.world_defs.specs.Row.{refused_with, in_state, why_not_down}
@@ -37,32 +38,20 @@ use Rattle.world_defs.specs.Step.{LeftByRow}
 use Rattle.world_defs.specs.Ties.{Matches}
 use Rattle.world_defs.specs.rows.Map.{no_region_at, IsNotThere}
 use Rattle.world_defs.specs.rows.SetJournal.{unset_by, unset, SetBy, SetRefusedBy, GainsMode, GainsModeLeft, set_journal}
-use Rattle.site_runner.specs.declared.slot.State.{State}
-use Rattle.site_runner.specs.declared.slot.State.TheVariants.{Down, Failed}
-use Rattle.site_runner.specs.declared.slot.Site.{Site}
-use Rattle.site_runner.specs.Sites.{state_value, site_value, HoldsState, IsOf, IsMade}
+use Rattle.site_runner.specs.Sites.{state_value, site_value, HoldsState, IsOf, IsMade, State, Down, Failed, Site}
 use Rattle.site_runner.specs.Executes.{Comes}
 use Rattle.site_runner.specs.Mapping.{IsSeenAt}
 use Rattle.site_runner.specs.Refusing.{IsDownAt}
 use Rattle.site_runner.specs.Setting.{SetsAt, IsCutSet}
 use Rattle.site_runner.specs.Steps.{IsAt, ExecutesAt, IsCutAt}
 use Rattle.site_runner.proofs.Amongs.{among_flat, flat_among}
-use Rattle.site_runner.proofs.Ats.{comes_done, comes_refused, comes_may_refuse, comes_fault, comes_damaged, refused_late, none_refused, state_at, not_true, is_true_or_false, some_both, some_and, told_is, is_site, reads_site, at_moment, as_told, by_shown, if_some, any_shown, stands_by, stand_by, standing_of, ImagesStand, Leftovers}
+use Rattle.site_runner.proofs.Ats.{comes_done, comes_refused, comes_may_refuse, comes_fault, comes_damaged, refused_late, none_refused, not_true, is_true_or_false, some_both, some_and, told_is, is_site, reads_site, at_moment, as_told, by_shown, if_some, stands_by, stand_by, standing_of, ImagesStand, Leftovers}
 use Rattle.site_runner.proofs.Begun.{of_more}
 use Rattle.site_runner.proofs.Found.{FoundIn, layout_at, number_found}
 use Rattle.site_runner.proofs.Leaving.{Ends, EndsSo, ImagesAfter, MayHave, old_ends, old_ends_so, fails_more, left_more, left_cut, left_failed, down_at, still_down, early_none, nothing_had}
 use Rattle.site_runner.proofs.Mapped.{Looked, AreAlike, seen_at, unknown_seen, seen_counted, shown_none, some_and_of}
 use Rattle.site_runner.proofs.Seen.{counted, kept_counted}
 use Rattle.site_runner.proofs.Started.{stand_one}
-
-pub set_not_down : (v : View) (s : Site) (region : Name) (mode : Bool) (cause : Cause) (p : Place) → why_not_down (state_value s.state) ≡ Some cause → IsAt v s p → (set_journal region mode s.name p).early ≡ refused_with s.name (Some cause)
-set_not_down v s region mode cause p e h = ap (refused_with s.name) (state_at why_not_down v s p h ∙ e)
-
--- which no file decides
-pub set_early : (region name : Name) (state : world.State) (cause : Cause) (p : Place) → why_not_down state ≡ Some cause → IfShown p (SetRefusedBy region name cause)
-set_early region name world.Down cause p e = cc
-set_early region name (world.Primary stamp serials) cause p e = let same : Running ≡ cause = cc in subst (λ (c : Cause). IfShown p (SetRefusedBy region name c)) same (any_shown p.shown)
-set_early region name (world.Failed k) cause p e = let same : Stopped k ≡ cause = cc in subst (λ (c : Cause). IfShown p (SetRefusedBy region name c)) same (any_shown p.shown)
 
 early_down : (s : Site) (p : Place) → s.state ≡ Down → p.site ≡ Some (site_value s) → refused_with s.name (in_state why_not_down p.site) ≡ None
 early_down s p down site = ap (refused_with s.name) (early_none s p down site)

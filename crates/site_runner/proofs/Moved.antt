@@ -6,9 +6,9 @@ use Rattle.site_defs.specs.Lists.{Along}
 use Rattle.world_defs.specs.World.{Place, World, IsFresh}
 use Rattle.world_defs.specs.Ties.{Matches, AreDisks}
 use Rattle.site_runner.specs.declared.slot.Slot.{Slot}
-use Rattle.site_runner.specs.Sites.{AreReady}
+use Rattle.site_runner.specs.Sites.{AreReady, disk_in}
 use Rattle.site_runner.specs.Tied.{IsPlace, Tied, Matched}
-use Rattle.site_runner.specs.Moved.{free_slot, disk_of}
+use Rattle.site_runner.specs.Moved.{free_slot}
 
 tied_along : {D : Type 0} (view : D → View) (disks : List D) (ps : List Place) → Along (λ i d p. Matches (view d) p) disks ps → AllByRecursion (λ (p : Place). p.site ≡ None) ps → Along (λ i slot p. IsPlace view slot p) (map free_slot disks) ps
 tied_along view [] [] h f = tt
@@ -20,14 +20,14 @@ tied_along view (d ∷ ds) (p ∷ ps) h f = (record { disk = h.0; site = f.0; he
 pub tied_fresh : {D : Type 0} (view : D → View) (disks : List D) (slots : List (Slot D)) (w : World) → slots ≡ map free_slot disks → AreDisks view disks w → IsFresh w → Tied view slots w
 tied_fresh {D} view disks slots w e h f = subst (λ (x : List (Slot D)). Tied view x w) (sym e) (tied_along view disks w.places h f)
 
-given_along : {D : Type 0} (view : D → View) (slots : List (Slot D)) (ps : List Place) → Along (λ i slot p. Matches (view slot.disk) p) slots ps → Along (λ i d p. Matches (view d) p) (map disk_of slots) ps
+given_along : {D : Type 0} (view : D → View) (slots : List (Slot D)) (ps : List Place) → Along (λ i slot p. Matches (view (disk_in slot)) p) slots ps → Along (λ i d p. Matches (view d) p) (map disk_in slots) ps
 given_along view [] [] h = tt
 given_along view [] (p ∷ ps) h = h
 given_along view (s ∷ ss) [] h = h
 given_along view (s ∷ ss) (p ∷ ps) h = (h.0, given_along view ss ps h.1)
 
 -- disks that are given back
-pub are_disks : {D : Type 0} (view : D → View) (slots : List (Slot D)) (disks : List D) (w : World) → disks ≡ map disk_of slots → Matched view slots w → AreDisks view disks w
+pub are_disks : {D : Type 0} (view : D → View) (slots : List (Slot D)) (disks : List D) (w : World) → disks ≡ map disk_in slots → Matched view slots w → AreDisks view disks w
 are_disks {D} view slots disks w e h = subst (λ (x : List D). AreDisks view x w) (sym e) (given_along view slots w.places h)
 
 ready_along : {D : Type 0} (view : D → View) (disks : List D) → AreReady view (map free_slot disks)

@@ -1,38 +1,26 @@
 -- TYPE at a place.
 use Rattle.std.proofs.Common.{◌≡◌, ◌≢◌, ℕ, ◌-◌, ◌≤◌, ◌==◌, Bool, true, false, List, [], ◌∷◌, ◌++◌, length, get_or, None, Some, refl, sym, ◌∙◌, ap, subst, arith, inl, inr, if◌then◌else◌}
-use Rattle.std.specs.Prelude.{◌⊎◌, Option, codes, IfSome}
+use Rattle.std.specs.Prelude.{◌⊎◌, Option, codes, IfSome, Result, Ok, Err, OnOk, OnErr, IfOk, IsErrOf}
 use Rattle.std.specs.Fmt.{decimal}
-use Rattle.std.proofs.lemmas.Bool.{ne_eqb, eqb-true}
+use Rattle.std.proofs.lemmas.Bool.{ne_eqb}
 use Rattle.disk_defs.specs.Disk as disk
-use Rattle.disk_defs.specs.Disk.{Files, View, Rose}
+use Rattle.disk_defs.specs.Disk.{Files, View, Rose, MayFail}
 use Rattle.journal_defs.specs.Numbers.{lost_file, broken_file}
-use Rattle.world_defs.specs.World as world
 use Rattle.world_defs.specs.World.{Place, IfShown}
-use Rattle.command_defs.specs.Commands.{Name}
 use Rattle.site_defs.specs.Contents.{Contents, Leftover}
-use Rattle.world_defs.specs.Answers.{NoFile, Stopped, Refusal, Refused, Typed, line, Cause}
+use Rattle.world_defs.specs.Answers.{NoFile, Refusal, Refused, Typed, line, fault_line}
 use Rattle.world_defs.specs.Row.{refused_with, in_state, stopped}
 use Rattle.world_defs.specs.rows.Print.{TypedBy, typed, file_typed, no_file, print}
 use Rattle.site_defs.specs.Stands.{IsSite, HasLeft}
-use Rattle.site_runner.specs.declared.slot.State.TheVariants.{Failed}
-use Rattle.site_runner.specs.declared.slot.Site.{Site}
-use Rattle.site_runner.specs.Sites.{state_value}
+use Rattle.site_store.specs.declared.error.SiteError.{SiteError}
+use Rattle.site_store.specs.declared.error.SiteError.TheVariants as errors
+use Rattle.site_runner.specs.declared.ending.Ended.{Ended}
+use Rattle.site_runner.specs.declared.ending.Ended.TheVariants as ends
+use Rattle.site_runner.specs.Ending.{is_done_at, ShowsBytes}
+use Rattle.site_runner.specs.Sites.{state_value, Failed, Site}
 use Rattle.site_runner.specs.Steps.{IsAt, ExecutesAt, IsCutAt}
-use Rattle.site_runner.proofs.Ats.{comes_refused, comes_may_refuse, comes_typed, refused_late, none_refused, state_at, is_true_or_false, some_both, reads_site, by_shown, if_some}
+use Rattle.site_runner.proofs.Ats.{on_not_done, on_done, comes_refused, comes_may_refuse, comes_typed, refused_late, none_refused, state_at, is_true_or_false, some_both, reads_site, by_shown, if_some}
 use Rattle.site_runner.proofs.Seen.{counted, kept_counted, read_at, read_faulted, read_cut}
-
-pub print_stopped : (lost : Bool) (g : ℕ) (v : View) (s : Site) (cause : Cause) (p : Place) → stopped (state_value s.state) ≡ Some cause → IsAt v s p → (print lost g s.name p).early ≡ refused_with s.name (Some cause)
-print_stopped lost g v s cause p e h = ap (refused_with s.name) (state_at stopped v s p h ∙ e)
-
--- which no file decides
-pub print_early : (name : Name) (lost : Bool) (g : ℕ) (state : world.State) (cause : Cause) (p : Place) → stopped state ≡ Some cause → IfShown p (TypedBy lost g (Refused (record { site = name; cause = cause })))
-print_early name lost g world.Down cause p e = cc
-print_early name lost g (world.Primary stamp serials) cause p e = cc
-print_early name lost g (world.Failed k) cause p e = let same : Stopped k ≡ cause = cc in never p.shown (λ is. (let no : Stopped k ≡ NoFile = same ∙ is in cc))
-  where
-    never : (x : Option Files) → (cause ≡ NoFile → ⊥) → IfSome x (λ f. cause ≡ NoFile → f (file_typed lost g) ≡ [])
-    never None f = tt
-    never (Some files) f = λ is. absurd (f is)
 
 -- The tests of a site that isn't stopped.
 
@@ -117,14 +105,25 @@ print_fault lost g v w s k before now r up count rose t = read_faulted (print lo
 pub print_cut : (lost : Bool) (g : ℕ) (v w : View) (s : Site) → disk.Reads v w → v.faults ≤ w.faults → IsCutAt (print lost g s.name) v s w
 print_cut lost g v w s = read_cut (print lost g s.name) v w s
 
-pub empty_is : (bytes : List ℕ) → (length bytes == 0) ≡ true → bytes ≡ []
-empty_is [] e = refl
-empty_is (b ∷ bytes) e = let z : length (b ∷ bytes) ≡ 0 = eqb-true (length (b ∷ bytes)) 0 e in absurd (omega (arith, z))
-
-pub full_is : (bytes : List ℕ) → (length bytes == 0) ≡ false → bytes ≢ []
-full_is [] e n = cc
-full_is (b ∷ bytes) e n = cc
-
 -- by the file's number
 pub text_of : (lost : Bool) (g file : ℕ) (o : Option Files) (old bytes : List ℕ) → file ≡ file_typed lost g → IfSome o (λ files. bytes ≡ old ++ files file) → IfSome o (λ files. bytes ≡ old ++ files (file_typed lost g))
 text_of lost g file o old bytes e h = subst (λ (n : ℕ). IfSome o (λ files. bytes ≡ old ++ files n)) e h
+
+-- what was read of the file, or that a call failed
+shown : (lost : Bool) (typing : TypingReads lost) (g : ℕ) (v w : View) (s : Site) (old bytes before now : List ℕ) → disk.Reads v w → v.faults ≤ w.faults → stopped (state_value s.state) ≡ None → 1 ≤ g → g ≤ 65535 → old ≡ []
+    → IfSome v.content (λ files. bytes ≡ old ++ files (file_typed lost g)) → ShowsBytes bytes s.name before now → ExecutesAt (print lost g s.name) v s w s before now false
+shown lost typing g v w s old [] before now r later up some most none text shows = print_none lost typing g v w s old [] before now r later up some most none text refl shows
+shown lost typing g v w s old (b ∷ bytes) before now r later up some most none text shows = printed lost typing g v w s old (b ∷ bytes) before now r later up some most none text (λ e. cc) shows
+
+pub prints : {T E : Type 0} (lost : Bool) (typing : TypingReads lost) (g : ℕ) (v w : View) (s : Site) (after : Ended → Site) (old bytes before now : List ℕ) (read : Result T SiteError) (result : Result Ended E) → disk.Reads v w → MayFail v.faults w.faults (λ fault. IsErrOf read (errors.Failed fault))
+    → stopped (state_value s.state) ≡ None → 1 ≤ g → g ≤ 65535 → old ≡ [] → after ends.Undone ≡ s → ((k : ℕ) → after (ends.Failed k) ≡ record { name = s.name; state = Failed k })
+    → OnOk read (IfSome v.content (λ files. bytes ≡ old ++ files (file_typed lost g))) → OnOk read (IfOk result (λ ended. (ended ≡ ends.Undone) × ShowsBytes bytes s.name before now))
+    → OnErr read (IfOk result (λ ended. (fault : ℕ) × IsErrOf read (errors.Failed fault) × (ended ≡ ends.Failed fault) × (now ≡ before ++ fault_line s.name fault)))
+    → IfOk result (λ ended. ExecutesAt (print lost g s.name) v s w (after ended) before now (is_done_at ended))
+prints lost typing g v w s after old bytes before now (Ok x) result r faults up some most none same failed text ok err =
+    on_not_done result _ (λ ended. ExecutesAt (print lost g s.name) v s w (after ended) before now (is_done_at ended)) ok (λ shows.
+    subst (λ (x : Site). ExecutesAt (print lost g s.name) v s w x before now false) (sym same) (shown lost typing g v w s old bytes before now r faults.later up some most none text shows))
+prints lost typing g v w s after old bytes before now (Err x) result r faults up some most none same failed text ok err =
+    let Then : Ended → Type 0 = λ ended. ExecutesAt (print lost g s.name) v s w (after ended) before now (is_done_at ended) in
+    on_done result _ Then err (λ ended h. subst Then (sym h.2)
+    (subst (λ (x : Site). ExecutesAt (print lost g s.name) v s w x before now false) (sym (failed h.0)) (print_fault lost g v w s h.0 before now r up (faults.count h.0 h.1) (faults.cause h.0 h.1) h.3)))

@@ -10,29 +10,27 @@ use Rattle.global_defs.specs.Entry.{Stamp, Sequence, state}
 use Rattle.global_defs.specs.Jobs.{Job, SeqLimit}
 use Rattle.global_defs.specs.Evaluation.{Evaluated, eval}
 use Rattle.global_defs.specs.Evaluation as evaluation
-use Rattle.global_defs.specs.Serial.{MOST_ENTRIES, Turn, Seq, RolledBack, first_of, next_job, without_next, serial_at, entry_of, replied, decided, picked, serial, begun}
-use Rattle.repl_section.specs.declared.reign.Reign.{Reign}
+use Rattle.global_defs.specs.Serial.{MOST_ENTRIES, Turn, Replied, Seq, RolledBack, first_of, next_job, without_next, serial_at, entry_of, replied, decided, picked, serial, begun}
 use Rattle.command_defs.specs.Commands.{UsesUp, Name}
-use Rattle.repl_section.specs.Reigns.{Reigns, stamp_in, stamp_of}
+use Rattle.repl_section.specs.Reigns.{stamp_in}
 use Rattle.repl_section.specs.Lines.{GaveLines}
-use Rattle.repl_section.specs.Deciding.{HasDecided, MayHaveFront, LeftAfter, MayLeave, FailsIn}
+use Rattle.repl_section.specs.Deciding as deciding
+use Rattle.repl_section.specs.Deciding.{MayHaveFront, LeftAfter, MayLeave, FailsIn}
 use Rattle.site_defs.specs.Lists.{Among}
 use Rattle.world_defs.specs.World as world
 use Rattle.world_defs.specs.World.{Place, StandAfter}
 use Rattle.site_defs.specs.Contents.{Contents, Leftover, Standing, NO_LEFTOVER, bare}
-use Rattle.world_defs.specs.Answers.{Section, line, Cause}
-use Rattle.world_defs.specs.Row.{refused_with, in_state, why_not_primary, refusal_in}
+use Rattle.world_defs.specs.Answers.{Section, line}
+use Rattle.world_defs.specs.Row.{in_state, why_not_primary, refusal_in}
 use Rattle.world_defs.specs.Changes.{in_new_state}
 use Rattle.site_defs.specs.Fronts.{with_sequence, IsFrontOf, turn_of}
 use Rattle.site_defs.specs.Opening.{IsBehind}
 use Rattle.site_defs.specs.Behind.{MayStand, StandsSo}
 use Rattle.world_defs.specs.rows.Run.{RunMayLeaveOn, RunMayStandOn, one_further, undecided_line, section_text, turn_on, run}
-use Rattle.site_defs.specs.Texts.{reply_line}
+use Rattle.site_defs.specs.Texts.{reply_line, printed}
 use Rattle.world_defs.specs.Ties.{Matches}
-use Rattle.site_runner.specs.declared.slot.State.{State}
-use Rattle.site_runner.specs.declared.slot.State.TheVariants.{Primary, Failed}
-use Rattle.site_runner.specs.declared.slot.Site.{Site}
-use Rattle.site_runner.specs.Sites.{state_value, site_value, IsOf, IsOpen}
+use Rattle.repl_section.specs.declared.reign.Reign as code
+use Rattle.site_runner.specs.Sites.{reign_in, state_value, site_value, IsOf, IsOpen, State, Primary, Failed, Site, Reign, Reigns, stamp_of}
 use Rattle.site_runner.specs.Steps.{IsAt, ExecutesAt, IsCutAt}
 use Rattle.site_runner.proofs.Ats.{comes_ran, not_early, some_outcome, state_at, told_is, reads_image, Leftovers, NothingIsLeft, place_of_images, place_of_one, only, open_site, open_reads, open_images}
 use Rattle.site_runner.proofs.Ats.{ImagesStand, stands_with}
@@ -42,6 +40,20 @@ use Rattle.site_runner.proofs.Stopped.{open_at, reigns_at}
 use Rattle.site_runner.proofs.Amongs.{among_first, among_second, among_either}
 use Rattle.site_runner.proofs.Begun.{nat_cases}
 use Rattle.site_store.specs.Site.{count_of}
+
+-- A section has come to this turn, by what its reign has in memory.
+pub record HasReached (v : View) (told : Bool) (c : Contents) (t : Turn) (r : Reign) (gave : List Replied → Type 0) : Type 0 where
+  pub reigns : Reigns v told (with_sequence c t.sequence) r
+  pub serials : r.serials ≡ t.serials
+  pub given : gave t.replies
+  pub grown : length c.sequence ≤ length t.sequence
+  pub printed : printed (length t.sequence) t.replies ≡ t.replies
+
+abbrev pub HasDecided : View → Bool → Contents → List (List Job) → (picks : List ℕ) → Reign → Reign → (List Replied → Type 0) → Type 0
+HasDecided v told c jobs picks old new gave = HasReached v told c (turn_of (stamp_of old) old.serials jobs picks c.sequence) new gave
+
+pub decided_in : {D : Type 0} (v : View) (told : Bool) (c : Contents) (jobs : List (List Job)) (picks : List ℕ) (old new : code.Reign D) (gave : List Replied → Type 0) → deciding.HasDecided v told c jobs picks old new gave → HasDecided v told c jobs picks (reign_in old) (reign_in new) gave
+decided_in v told c jobs picks old new gave h = record { reigns = h.reigns; serials = h.serials; given = h.given; grown = h.grown; printed = h.printed }
 
 -- What jobs are left doesn't depend on what they come to.
 
@@ -82,9 +94,6 @@ used_up stamp serials jobs order seq h =
 -- why a site isn't a primary
 primary_at : (v : View) (s : Site) (state : State) (p : Place) → s.state ≡ state → IsAt v s p → in_state why_not_primary p.site ≡ why_not_primary (state_value state)
 primary_at v s state p e h = state_at why_not_primary v s p h ∙ ap (λ (x : State). why_not_primary (state_value x)) e
-
-pub run_not_primary : (v : View) (s : Site) (jobs : List (List Job)) (order : List ℕ) (cause : Cause) (p : Place) → why_not_primary (state_value s.state) ≡ Some cause → IsAt v s p → (run jobs order s.name p).early ≡ refused_with s.name (Some cause)
-run_not_primary v s jobs order cause p e h = ap (refused_with s.name) (state_at why_not_primary v s p h ∙ e)
 
 none_primary : (v : View) (s : Site) (r : Reign) (jobs : List (List Job)) (order : List ℕ) (p : Place) → s.state ≡ Primary r → IsAt v s p → refusal_in (run jobs order s.name p) ≡ None
 none_primary v s r jobs order p e h = not_early s.name (in_state why_not_primary p.site) (primary_at v s (Primary r) p e h)
@@ -139,10 +148,10 @@ of_sequence : (name : Name) (c : Contents) (seq : Sequence) → IsOf name c → 
 of_sequence name c seq h = record { made = h.made; name = h.name }
 
 -- all jobs are decided
-pub ran : (v w : View) (nothing : NothingIsLeft w) (s : Site) (r new : Reign) (jobs : List (List Job)) (order : List ℕ) (before middle now : List ℕ) → IsLawful w → UsesUp jobs order → s.state ≡ Primary r → new.site.stamp ≡ r.site.stamp → w.simulated ≡ v.simulated → v.faults ≤ w.faults
+pub ran : (v w : View) (s : Site) (r new : Reign) (nothing : NothingIsLeft w new.site) (jobs : List (List Job)) (order : List ℕ) (before middle now : List ℕ) → IsLawful w → UsesUp jobs order → s.state ≡ Primary r → new.site.stamp ≡ r.site.stamp → w.simulated ≡ v.simulated → v.faults ≤ w.faults
     → ((told : Bool) (c : Contents) → Reigns v told c r → HasDecided w told c jobs order r new (GaveLines before middle))
     → now ≡ middle ++ line s.name (codes "AT " ++ decimal (count_of new.site)) → ExecutesAt (run jobs order s.name) v s w (record { name = s.name; state = Primary new }) before now false
-ran v w nothing s r new jobs order before middle now law whole st stamped same later f t p h =
+ran v w s r new nothing jobs order before middle now law whole st stamped same later f t p h =
     let d : HasDecided w p.told p.now jobs order r new (GaveLines before middle) = f p.told p.now (reigns_at v s r p st h) in
     let stamp = stamp_of r in
     let turn : Turn = turn_of stamp r.serials jobs order p.now.sequence in
@@ -168,7 +177,7 @@ ran v w nothing s r new jobs order before middle now law whole st stamped same l
       };
     })
     (record {
-      disk = place_of_one w p q.site o (same ∙ h.disk.simulated) (λ sure. open_reads w nothing p.told o new.site law sure d.reigns) (λ sure. open_images w nothing p.told o new.site sure d.reigns);
+      disk = place_of_one w p q.site o (same ∙ h.disk.simulated) (λ sure. open_reads w new.site nothing p.told o law sure d.reigns) (λ sure. open_images w new.site nothing p.told o sure d.reigns);
       site = ap (in_new_state state) h.site ∙ ap (λ (x : List ℕ). Some (record { name = s.name; state = world.Primary stamp x })) (sym d.serials)
           ∙ ap (λ (x : Stamp). Some (record { name = s.name; state = world.Primary x new.serials })) stamp_new;
       held = record {
@@ -271,14 +280,14 @@ decided_front w told c jobs order r new before now d =
     )
 
 -- with nothing behind it
-pub decided_behind : (w : View) (nothing : NothingIsLeft w) (told : Bool) (c : Contents) (jobs : List (List Job)) (order : List ℕ) (r new : Reign) (before now : List ℕ) → HasDecided w told c jobs order r new (GaveLines before now)
+pub decided_behind : (w : View) (told : Bool) (c : Contents) (jobs : List (List Job)) (order : List ℕ) (r new : Reign) (nothing : NothingIsLeft w new.site) (before now : List ℕ) → HasDecided w told c jobs order r new (GaveLines before now)
     → told ≡ true → LeftBehind w (stamp_of r) c jobs order r.serials
-decided_behind w nothing told c jobs order r new before now d sure files i =
+decided_behind w told c jobs order r new nothing before now d sure files i =
     let all = (turn_of (stamp_of r) r.serials jobs order c.sequence).sequence in (
       bare (with_sequence c all),
       length order,
       inl (ap (λ (x : List ℕ). bare (with_sequence c (turn_of (stamp_of r) r.serials jobs x c.sequence).sequence)) (sym (take-length order))),
-      open_images w nothing told (with_sequence c all) new.site sure d.reigns files i,
+      open_images w new.site nothing told (with_sequence c all) sure d.reigns files i,
     )
 
 -- the fronts of one sequence, if it has any

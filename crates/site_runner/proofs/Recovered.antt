@@ -16,36 +16,24 @@ use Rattle.site_defs.specs.Opening.{cut_there}
 use Rattle.site_defs.specs.Stands.{IsSite, HasLeft}
 use Rattle.site_store.specs.Opening.{EachStands}
 use Rattle.mupip_rollback.specs.Rolling.{StandsFor}
-use Rattle.world_defs.specs.World as world
 use Rattle.world_defs.specs.World.{Place, IfShown}
-use Rattle.world_defs.specs.Answers.{Cause, GenLimit, Running, Stopped, Refusal, line}
+use Rattle.world_defs.specs.Answers.{GenLimit, Refusal, line}
 use Rattle.world_defs.specs.Changes.{KeptUnknown}
 use Rattle.world_defs.specs.Row.{refused_with, in_state, why_not_down, where_known}
 use Rattle.world_defs.specs.rows.Start.{generation_limit, need_forward}
 use Rattle.world_defs.specs.Without.{NoneIsWithout}
 use Rattle.world_defs.specs.rows.Recover.{unrecovered, RecoveredBy, RecoveryRefusedBy, IsUnrecovered, RecoveryMayRefuse, recover}
-use Rattle.site_runner.specs.declared.slot.State.TheVariants.{Down, Failed}
-use Rattle.site_runner.specs.declared.slot.Site.{Site}
-use Rattle.site_runner.specs.Sites.{state_value, IsOf}
+use Rattle.site_runner.specs.Sites.{IsOf, Down, Failed, Site}
 use Rattle.site_runner.specs.Steps.{IsAt, ExecutesAt, IsCutAt}
 use Rattle.site_runner.specs.Recovering.{IsHeldFor}
 use Rattle.site_runner.specs.Refusing.{IsDownAt}
 use Rattle.site_runner.proofs.Amongs.{among_first, among_second, among_either, among_map, map_among}
-use Rattle.site_runner.proofs.Ats.{first_cause, no_cause, comes_done, comes_refused, comes_may_refuse, comes_fault, comes_damaged, refused_late, none_refused, state_at, not_true, is_true_or_false, some_both, reads_site, is_site, stands_told, if_some, by_shown, any_shown, shown_unwritten, Leftovers}
+use Rattle.site_runner.proofs.Ats.{first_cause, no_cause, comes_done, comes_refused, comes_may_refuse, comes_fault, comes_damaged, refused_late, none_refused, not_true, is_true_or_false, some_both, reads_site, is_site, stands_told, if_some, by_shown, shown_unwritten, Leftovers}
 use Rattle.site_runner.proofs.Begun.{begun_up_to, among_begun, any_begun, cut_so_as, of_opened_as, generation_past, generation_left}
 use Rattle.site_runner.proofs.Marked.{marks, among_marks, marks_are, among_left, left_are, of_marked}
 use Rattle.site_runner.proofs.Seen.{counted, kept_counted}
 use Rattle.site_runner.proofs.Started.{each_stands, unknown_at, no_forward, stand_one}
 use Rattle.site_runner.proofs.Leaving.{Ends, EndsSo, left_cut, left_failed, Done, done_at, down_at, still_down, down_counted, early_none, StepsAt, StepsSo, may_have, WasRead, HeldSo, was_read}
-
-pub recover_not_down : (anew : Bool) (v : View) (s : Site) (cause : Cause) (p : Place) → why_not_down (state_value s.state) ≡ Some cause → IsAt v s p → (recover anew s.name p).early ≡ refused_with s.name (Some cause)
-recover_not_down anew v s cause p e h = ap (refused_with s.name) (state_at why_not_down v s p h ∙ e)
-
--- which no file decides
-pub recover_early : (state : world.State) (cause : Cause) (p : Place) → why_not_down state ≡ Some cause → IfShown p (RecoveryRefusedBy cause)
-recover_early world.Down cause p e = cc
-recover_early (world.Primary stamp serials) cause p e = let same : Running ≡ cause = cc in subst (λ (c : Cause). IfShown p (RecoveryRefusedBy c)) same (any_shown p.shown)
-recover_early (world.Failed k) cause p e = let same : Stopped k ≡ cause = cc in subst (λ (c : Cause). IfShown p (RecoveryRefusedBy c)) same (any_shown p.shown)
 
 -- What an opening and a closing may leave.
 

@@ -35,8 +35,6 @@ use Rattle.world_defs.specs.rows.Start.{IsUnopened, LimitedBy, limited, generati
 use Rattle.world_laws.proofs.Bare.{first_needing}
 use Rattle.site_runner.specs.declared.refusing.Needing.{Needing}
 use Rattle.site_runner.specs.declared.refusing.Needing.TheVariants.{Rollback, Opening}
-use Rattle.site_runner.specs.declared.slot.State.TheVariants.{Down, Failed}
-use Rattle.site_runner.specs.declared.slot.Site.{Site}
 use Rattle.site_runner.specs.Executes.{Comes}
 use Rattle.site_runner.specs.Steps.{IsAt, ExecutesAt, IsCutAt}
 use Rattle.site_runner.specs.Refusing.{IsDownAt, Refusable, ToRollBack, ToStart, ToRecover, row_of, target_of, IsAskedBy, IsTold, NeedsForward, cause_of, TellsRegion, RefusesAt, IsCutDown}
@@ -45,6 +43,7 @@ use Rattle.site_runner.proofs.Begun.{generation_left}
 use Rattle.site_runner.proofs.Seen.{counted, kept_counted}
 use Rattle.site_runner.proofs.Started.{stand_one}
 use Rattle.site_runner.proofs.Leaving.{old_ends, old_ends_so, fails_more, left_more, left_cut, left_failed, down_at, still_down, down_counted, early_none, nothing_had}
+use Rattle.site_runner.specs.Sites.{Down, Failed, Site}
 
 -- the region by its name
 

@@ -1,5 +1,8 @@
 -- Clauses of calls that may fail.
-use Rattle.std.specs.Prelude.{◌≡◌, Bool, false, Result, Ok, Err, OnOk, OnErr, IfOk, IfErr}
+use Rattle.std.proofs.Common.{sym, subst}
+use Rattle.std.specs.Prelude.{◌≡◌, Result, Ok, Err, OnOk, OnErr, IfOk, IfErr}
+use Rattle.site_runner.specs.declared.ending.Ended.{Ended}
+use Rattle.site_runner.specs.declared.ending.Ended.TheVariants.{Undone}
 
 pub on_ok : {T E : Type 0} (r : Result T E) (P Q : Type 0) → OnOk r P → (P → Q) → OnOk r Q
 on_ok (Ok x) P Q h f = f h
@@ -25,11 +28,28 @@ pub err_so : {T E : Type 0} (r : Result T E) (P : Type 0) → P → OnErr r P
 err_so (Ok x) P h = tt
 err_so (Err e) P h = h
 
+pub ok_so : {T E : Type 0} (r : Result T E) (P : Type 0) → P → OnOk r P
+ok_so (Ok x) P h = h
+ok_so (Err e) P h = tt
+
+-- what holds of a call that succeeded
+pub ok_then : {T E : Type 0} (r : Result T E) (x : T) (P : Type 0) → r ≡ Ok x → OnOk r P → P
+ok_then {T} {E} r x P is h = subst (λ (y : Result T E). OnOk y P) is h
+
 pub on_any : {T E : Type 0} (r : Result T E) (P : T → Type 0) (Q : Type 0) → IfOk r P → ((x : T) → P x → Q) → OnOk r Q
 on_any (Ok x) P Q h f = f x h
 on_any (Err e) P Q h f = h
 
 -- a call that answered that a command wasn't done
-pub on_refused : {E : Type 0} (r : Result Bool E) (T Q : Type 0) → IfOk r (λ done. (done ≡ false) × T) → (T → Q) → OnOk r Q
-on_refused (Ok done) T Q h f = f h.1
+pub on_refused : {E : Type 0} (r : Result Ended E) (T Q : Type 0) → IfOk r (λ ended. (ended ≡ Undone) × T) → (T → Q) → OnOk r Q
+on_refused (Ok ended) T Q h f = f h.1
 on_refused (Err e) T Q h f = h
+
+-- a command that ended so once its line was written
+pub on_written : {T E F : Type 0} (written : Result T F) (r : Result Ended E) (ended : Ended) (Q : Type 0) (P : Ended → Type 0) → OnOk written Q → OnOk written (r ≡ Ok ended) → OnErr written (IfOk r (λ x. ⊥)) → (Q → P ended) → IfOk r P
+on_written (Ok x) r ended Q P q is not f = subst (λ (y : Result Ended _). IfOk y P) (sym is) (f q)
+on_written (Err e) r ended Q P q is not f = none r not
+  where
+    none : {E : Type 0} (r : Result Ended E) → IfOk r (λ x. ⊥) → IfOk r P
+    none (Ok x) h = absurd h
+    none (Err e) h = tt

@@ -21,34 +21,22 @@ use Rattle.site_defs.specs.Stands.{IsSite, HasLeft}
 use Rattle.site_store.specs.Opening.{EachStands}
 use Rattle.mupip_rollback.specs.Rolling.{StandsFor}
 use Rattle.site_store.specs.Needing.{NoneIsWithout}
-use Rattle.world_defs.specs.World as world
 use Rattle.world_defs.specs.World.{Place, UNTOLD, AmongCovered, AmongCoveredSo, IfShown}
-use Rattle.world_defs.specs.Answers.{Cause, GenLimit, Running, Stopped, Refusal, line}
+use Rattle.world_defs.specs.Answers.{GenLimit, Refusal, line}
 use Rattle.world_defs.specs.Row.{first, refused_with, in_state, why_not_down, where_known}
 use Rattle.world_defs.specs.rows.Start.{generation_limit}
 use Rattle.world_defs.specs.rows.Rollback.{stay_of, before_cause, no_before, MayRollBackTo, MayRollBackToLeft, RolledBackBy, RollbackRefusedBy, rollback}
-use Rattle.site_runner.specs.declared.slot.State.TheVariants.{Down, Failed}
-use Rattle.site_runner.specs.declared.slot.Site.{Site}
-use Rattle.site_runner.specs.Sites.{state_value, IsOf}
+use Rattle.site_runner.specs.Sites.{IsOf, Down, Failed, Site}
 use Rattle.site_runner.specs.Steps.{IsAt, ExecutesAt, IsCutAt}
 use Rattle.site_runner.specs.Refusing.{IsDownAt}
 use Rattle.site_runner.proofs.Amongs.{among_first, among_second, among_either, among_map, map_among}
-use Rattle.site_runner.proofs.Ats.{first_cause, no_cause, comes_done, comes_refused, comes_may_refuse, comes_fault, comes_damaged, refused_late, none_refused, state_at, not_true, is_true_or_false, some_both, reads_site, is_site, stands_told, if_some, by_shown, any_shown, shown_unwritten, Leftovers}
+use Rattle.site_runner.proofs.Ats.{first_cause, no_cause, comes_done, comes_refused, comes_may_refuse, comes_fault, comes_damaged, refused_late, none_refused, not_true, is_true_or_false, some_both, reads_site, is_site, stands_told, if_some, by_shown, shown_unwritten, Leftovers}
 use Rattle.site_runner.proofs.Begun.{starts_up_to, among_starts, any_among, of_more, generation_past, generation_left}
 use Rattle.site_runner.proofs.Marked.{marks, among_marks, marks_are, among_left, left_are, of_marked}
 use Rattle.site_runner.proofs.Seen.{counted, kept_counted}
 use Rattle.site_runner.proofs.Started.{each_stands, unknown_at, stand_one}
 use Rattle.world_laws.proofs.Bare.{none_needing}
 use Rattle.site_runner.proofs.Leaving.{Ends, EndsSo, left_cut, left_failed, Done, done_at, down_at, still_down, down_counted, early_none, StepsAt, StepsSo, may_have, WasRead, HeldSo, was_read}
-
-pub rollback_not_down : (number : ℕ) (v : View) (s : Site) (cause : Cause) (p : Place) → why_not_down (state_value s.state) ≡ Some cause → IsAt v s p → (rollback number s.name p).early ≡ refused_with s.name (Some cause)
-rollback_not_down number v s cause p e h = ap (refused_with s.name) (state_at why_not_down v s p h ∙ e)
-
--- which no file decides
-pub rollback_early : (number : ℕ) (state : world.State) (cause : Cause) (p : Place) → why_not_down state ≡ Some cause → IfShown p (RollbackRefusedBy number cause)
-rollback_early number world.Down cause p e = cc
-rollback_early number (world.Primary stamp serials) cause p e = let same : Running ≡ cause = cc in subst (λ (c : Cause). IfShown p (RollbackRefusedBy number c)) same (any_shown p.shown)
-rollback_early number (world.Failed k) cause p e = let same : Stopped k ≡ cause = cc in subst (λ (c : Cause). IfShown p (RollbackRefusedBy number c)) same (any_shown p.shown)
 
 -- What a rollback may leave. Of the lost-transaction file that it was writing nothing is told.
 

@@ -9,10 +9,7 @@ use Rattle.world_defs.specs.World.{Place, Kept, has_failed_on}
 use Rattle.world_defs.specs.Answers.{fault_line}
 use Rattle.world_defs.specs.Row.{Row}
 use Rattle.world_defs.specs.Changes.{in_new_state, FailsUnchanged}
-use Rattle.site_runner.specs.declared.slot.State.{State}
-use Rattle.site_runner.specs.declared.slot.State.TheVariants.{Down, Primary, Failed}
-use Rattle.site_runner.specs.declared.slot.Site.{Site}
-use Rattle.site_runner.specs.Sites.{HoldsState}
+use Rattle.site_runner.specs.Sites.{HoldsState, State, Down, Primary, Failed, Site}
 use Rattle.site_runner.specs.Steps.{IsAt, ExecutesAt, IsCutAt}
 use Rattle.site_runner.proofs.Fused.{state_read}
 use Rattle.site_runner.proofs.Ats.{comes_fault, stand_same, left_old, still_by, failed_by, failed_stand, shown_same}

@@ -1,6 +1,6 @@
 -- START PRIMARY at a place.
 use Rattle.std.proofs.Common.{◌≡◌, ℕ, ◌+◌, ◌≤◌, ◌<◌, ◌==◌, ◌||◌, nat_le, Bool, true, false, List, [], ◌∷◌, ◌++◌, length, filter, None, Some, refl, sym, ◌∙◌, ap, subst, arith, inl, inr, if◌then◌else◌}
-use Rattle.std.specs.Prelude.{◌⊎◌, Option, codes, IfSome, IsSome, IsSomeAnd}
+use Rattle.std.specs.Prelude.{◌⊎◌, Option, codes, IfSome, IsSome, IsSomeAnd, Result, Ok, Err, IfOk, OnErr}
 use Rattle.std.specs.Fmt.{decimal}
 use Rattle.std.proofs.lemmas.Bool.{false≢true}
 use Rattle.disk_defs.specs.Disk.{Files, View, Image, IsLawful, AtEachMoment, Rose}
@@ -18,22 +18,21 @@ use Rattle.gvn_model.specs.Reigns.{stamp_value}
 use Rattle.journal_defs.specs.Instance.{InstanceRecord, Create, Reigned, Cut, Map, Mode, generation, greatest_cycle, regions, site_name}
 use Rattle.journal_defs.specs.Surviving.{reigns}
 use Rattle.journal_defs.specs.Fit.{MOST_REIGNS}
-use Rattle.site_store.specs.declared.site.OpenSite.{OpenSite}
+use Rattle.site_store.specs.declared.memory.Memory.{Memory}
 use Rattle.site_store.specs.Site.{Remembers, IsOpen, WasOpenedFrom, count_of}
 use Rattle.site_store.specs.Opening.{MayBeOpen, MayBeOpenWith, EachStands}
-use Rattle.repl_section.specs.declared.reign.Reign.{Reign}
-use Rattle.repl_section.specs.Reigns.{stamp_in, stamp_of}
+use Rattle.repl_section.specs.Reigns.{stamp_in}
 use Rattle.command_defs.specs.Commands.{Name}
 use Rattle.site_defs.specs.Lists.{Among}
 use Rattle.world_defs.specs.World as world
-use Rattle.world_defs.specs.World.{Place, has_failed_on, IfShown}
+use Rattle.world_defs.specs.World.{Place, has_failed_on, name_on, IfShown}
 use Rattle.world_defs.specs.Shown.{BySequence, IsOfAnother}
 use Rattle.world_defs.specs.Without.{NoneIsWithout}
 use Rattle.site_defs.specs.Contents.{Contents, Leftover, Standing, NO_LEFTOVER, bare}
-use Rattle.world_defs.specs.Answers.{Cause, Stopped, Running, GenLimit, ReignLimit, line}
+use Rattle.world_defs.specs.Answers.{Cause, GenLimit, ReignLimit, line}
 use Rattle.world_defs.specs.Row.{first, refused_with, in_state, why_not_down}
 use Rattle.world_defs.specs.Changes.{in_new_state, After, ChangesUnknown}
-use Rattle.world_defs.specs.rows.Start.{StartRefused, read_so, StartedBy, LimitedBy, IsUnopened, is_reign_limit, limited, generation_limit, forward_cause, need_forward, reign_limit, FIRST_SERIALS, cycle_on, start}
+use Rattle.world_defs.specs.rows.Start.{read_so, StartedBy, LimitedBy, IsUnopened, limited, generation_limit, forward_cause, need_forward, reign_limit, FIRST_SERIALS, cycle_on, start}
 use Rattle.site_defs.specs.Limits.{LAST_GENERATION, LAST_CYCLE, no_reign_left}
 use Rattle.site_defs.specs.OutsideBlocks.{IsOutsideOpening}
 use Rattle.site_defs.specs.Opening.{MayBegin, MayBeginLeft, opened, with_reign, next_stamp}
@@ -41,38 +40,35 @@ use Rattle.world_defs.specs.Step.{LeftByRow}
 use Rattle.world_defs.specs.Ties.{Matches}
 use Rattle.site_defs.specs.Stands.{IsSite, HasLeft, Stands, Reads}
 use Rattle.site_defs.specs.Behind.{IsSiteWith}
-use Rattle.site_runner.specs.declared.slot.State.{State}
-use Rattle.site_runner.specs.declared.slot.State.TheVariants.{Down, Primary, Failed}
-use Rattle.site_runner.specs.declared.slot.Site.{Site}
-use Rattle.site_runner.specs.Sites.{state_value, site_value, HoldsState, IsOf, IsMade}
-use Rattle.site_runner.specs.Executes.{Comes}
+use Rattle.site_runner.specs.Sites.{state_value, site_value, HoldsState, IsOf, IsMade, State, Down, Primary, Failed, Site, Reign, stamp_of, disk_in, site_in}
+use Rattle.world_defs.specs.Meaning.{row_at}
+use Rattle.gvn_key.specs.declared.bytes.NoMemory.{NoMemory}
+use Rattle.site_runner.specs.declared.slot.Slot.{Slot}
+use Rattle.site_runner.specs.declared.slot.Slot.TheVariants as slots
+use Rattle.site_runner.specs.declared.ending.Ended.{Ended}
+use Rattle.site_runner.specs.Ending.{down, is_done_at}
+use Rattle.site_runner.specs.Executes.{Comes, Becomes, Leaves}
+use Rattle.site_runner.proofs.Stopped.{placed, slot_at}
 use Rattle.site_runner.specs.Steps.{IsAt, ExecutesAt, IsCutAt}
-use Rattle.site_runner.specs.Starting.{IsOpenedAt, BeginsAt, IsCutOpened}
-use Rattle.site_runner.proofs.Ats.{comes_done, comes_refused, comes_may_refuse, comes_fault, comes_damaged, refused_late, none_refused, kept_same, not_true, is_true_or_false, some_both, told_is, is_site, reads_site, stands_told, at_moment, reads_image, Leftovers, NothingIsLeft, ReadPlace, place_of_images, place_of_one, only, open_reads, open_images, state_at}
-use Rattle.site_runner.proofs.Ats.{left_new, as_told, shown_same, shown_unwritten, by_shown, if_some, any_shown, stand_same, StandForOne, ImagesStand, standing_there, at_image, standing_of, stands_with, stands_for, still_by, up_down, images_of, standings_of}
+use Rattle.site_store.specs.declared.error.SiteError.{SiteError}
+use Rattle.site_runner.specs.Starting.{IsOpenedAt, BeginsAt, FailsToOpen}
+use Rattle.site_runner.proofs.Ats.{comes_done, comes_so, comes_refused, comes_may_refuse, comes_fault, comes_damaged, refused_late, none_refused, not_true, is_true_or_false, some_both, told_is, is_site, reads_site, stands_told, at_moment, reads_image, Leftovers, NothingIsLeft, ReadPlace, place_of_images, place_of_one, only, open_reads, open_images}
+use Rattle.site_runner.proofs.Ats.{left_new, as_told, shown_same, shown_unwritten, by_shown, if_some, stand_same, StandForOne, ImagesStand, standing_there, at_image, standing_of, stands_with, stands_for, still_by, up_down, images_of, standings_of}
 use Rattle.site_runner.proofs.Seen.{counted, kept_counted}
 use Rattle.site_runner.proofs.Remembered.{entries_count}
 use Rattle.site_runner.proofs.Begun.{limit_opened, stamp_opened, of_opened, of_begun, of_may_begin, begins, among_begins, begins_among, begins_so, begins_so_among, begun_so, generation_past, generation_left}
 
+-- Whatever place the site was opened at, START with some answer leads from there to one at which it stands, and this is its text.
+abbrev pub Begins : View → Memory → Site → View → Site → List ℕ → List ℕ → Bool → Type 0
+Begins v o old w new before now done = (p : Place) → IsOpenedAt v old o p → Comes (start old.name p) (IsAt w new) before now done
+
+-- It was cut off for want of memory.
+abbrev pub IsCutOpened : View → Memory → Site → View → Type 0
+IsCutOpened v o old w = (p : Place) → IsOpenedAt v old o p → (q : Place) × LeftByRow (start old.name p) p q × Matches w q
+
 -- why a site isn't down
 pub why_at : (s : Site) (state : State) (p : Place) → s.state ≡ state → p.site ≡ Some (site_value s) → in_state why_not_down p.site ≡ why_not_down (state_value state)
 why_at s state p e h = ap (in_state why_not_down) h ∙ ap (λ (x : State). why_not_down (state_value x)) e
-
--- a START of a site that isn't down
-
-pub start_not_down : (v : View) (s : Site) (cause : Cause) (p : Place) → why_not_down (state_value s.state) ≡ Some cause → IsAt v s p → (start s.name p).early ≡ refused_with s.name (Some cause)
-start_not_down v s cause p e h = ap (refused_with s.name) (state_at why_not_down v s p h ∙ e)
-
-pub start_kept : (state : world.State) (cause : Cause) (p : Place) → why_not_down state ≡ Some cause → StartRefused (is_reign_limit cause) p p
-start_kept world.Down cause p e = cc
-start_kept (world.Primary stamp serials) cause p e = let same : Running ≡ cause = cc in subst (λ (c : Cause). StartRefused (is_reign_limit c) p p) same (kept_same p)
-start_kept (world.Failed k) cause p e = let same : Stopped k ≡ cause = cc in subst (λ (c : Cause). StartRefused (is_reign_limit c) p p) same (kept_same p)
-
--- which no file decides
-pub start_early : (state : world.State) (cause : Cause) (p : Place) → why_not_down state ≡ Some cause → IfShown p (LimitedBy cause)
-start_early world.Down cause p e = cc
-start_early (world.Primary stamp serials) cause p e = let same : Running ≡ cause = cc in subst (λ (c : Cause). IfShown p (LimitedBy c)) same (any_shown p.shown)
-start_early (world.Failed k) cause p e = let same : Stopped k ≡ cause = cc in subst (λ (c : Cause). IfShown p (LimitedBy c)) same (any_shown p.shown)
 
 -- the tests of a site that is down
 
@@ -140,7 +136,7 @@ changes_unknown w p unsure faults = record {
 
 -- what the calls say of the disk
 
-abbrev pub Opens : View → View → OpenSite → Type 0
+abbrev pub Opens : View → View → Memory → Type 0
 Opens v w o = IfSome v.content (λ files. (c : Contents) (left : Leftover) → IsSite files c → HasLeft files c left → EachStands v → IsOpen w true (opened left.broken c) (length c.sequence) o)
 
 abbrev pub HasGenerations : View → Type 0
@@ -153,13 +149,13 @@ abbrev pub OpensSo : View → View → Type 0
 OpensSo v w = IfSome v.content (λ files. (c : Contents) → IsSite files c → AtEachMoment v w (MayBeOpenWith v))
 
 -- the records that the disk told are those that were opened, and a generation was left of them
-abbrev pub HeldBy : OpenSite → Files → Type 0
+abbrev pub HeldBy : Memory → Files → Type 0
 HeldBy o files = BySequence (λ u seq. WasOpenedFrom u seq o × (generation u.instance < LAST_GENERATION) × NoneIsWithout u (length seq)) files
 
-abbrev pub OpensHeld : View → OpenSite → Type 0
+abbrev pub OpensHeld : View → Memory → Type 0
 OpensHeld v o = IfSome v.content (HeldBy o)
 
-pub opens_held : (v : View) (o : OpenSite) → IfSome v.content (BySequence (λ u seq. WasOpenedFrom u seq o × NoneIsWithout u (length seq))) → IfSome v.content (λ files. (rs : List InstanceRecord) → IsInstance (files INSTANCE) rs → generation rs < 65534) → OpensHeld v o
+pub opens_held : (v : View) (o : Memory) → IfSome v.content (BySequence (λ u seq. WasOpenedFrom u seq o × NoneIsWithout u (length seq))) → IfSome v.content (λ files. (rs : List InstanceRecord) → IsInstance (files INSTANCE) rs → generation rs < 65534) → OpensHeld v o
 opens_held v o held drawn = both_weak v.content (BySequence (λ u seq. WasOpenedFrom u seq o × NoneIsWithout u (length seq))) (λ files. (rs : List InstanceRecord) → IsInstance (files INSTANCE) rs → generation rs < 65534) (HeldBy o) held drawn
     (λ f k low. (k.0, k.1, k.2, k.3, (k.4.0, low k.0.instance k.2.instance, k.4.1)))
 
@@ -172,7 +168,7 @@ stand_one f c u seq site held is =
     let same : site.records ≡ u = records_one f site.records u site.image.held held in
     (sym site.instance ∙ ap (λ (s : Records). s.instance) same, runs.one u c.sequence seq (subst (λ (s : Records). IsSequence s c.sequence) same site.image.sequence) is)
 
-opened_told : (leftovers : Leftovers) (one_only : StandForOne) (v w : View) (s : Site) (o : OpenSite) (p : Place) → IsLawful v → s.state ≡ Down → IsAt v s p → site_name o.instance.records ≡ s.name → p.told ≡ true
+opened_told : (leftovers : Leftovers) (one_only : StandForOne) (v w : View) (s : Site) (o : Memory) (p : Place) → IsLawful v → s.state ≡ Down → IsAt v s p → site_name o.instance.records ≡ s.name → p.told ≡ true
     → Opens v w o → HasGenerations v → OpensHeld v o
     → w.simulated ≡ v.simulated → v.faults ≤ w.faults → IsOpenedAt w s o p
 opened_told leftovers one_only v w s o p law down h name sure told drawn held same later =
@@ -206,7 +202,7 @@ opened_told leftovers one_only v w s o p law down h name sure told drawn held sa
       simulated = same ∙ h.disk.simulated;
     }
 
-opened_untold : (v w : View) (s : Site) (o : OpenSite) (p : Place) → s.state ≡ Down → IsAt v s p → site_name o.instance.records ≡ s.name → p.told ≡ false → ((c : Contents) × (broken : List ℕ) × Remembers (opened broken c) (length c.sequence) o)
+opened_untold : (v w : View) (s : Site) (o : Memory) (p : Place) → s.state ≡ Down → IsAt v s p → site_name o.instance.records ≡ s.name → p.told ≡ false → ((c : Contents) × (broken : List ℕ) × Remembers (opened broken c) (length c.sequence) o)
     → OpensHeld v o → w.simulated ≡ v.simulated → v.faults ≤ w.faults → IsOpenedAt w s o p
 opened_untold v w s o p down h name unsure read held same later = record {
   site = h.site;
@@ -227,7 +223,7 @@ opened_untold v w s o p down h name unsure read held same later = record {
   simulated = same ∙ h.disk.simulated;
 }
 
-pub opened_at : (leftovers : Leftovers) (one_only : StandForOne) (v w : View) (s : Site) (o : OpenSite) (p : Place) → IsLawful v → s.state ≡ Down → IsAt v s p → site_name o.instance.records ≡ s.name → ((c : Contents) × (broken : List ℕ) × Remembers (opened broken c) (length c.sequence) o)
+pub opened_at : (leftovers : Leftovers) (one_only : StandForOne) (v w : View) (s : Site) (o : Memory) (p : Place) → IsLawful v → s.state ≡ Down → IsAt v s p → site_name o.instance.records ≡ s.name → ((c : Contents) × (broken : List ℕ) × Remembers (opened broken c) (length c.sequence) o)
     → Opens v w o → HasGenerations v → OpensHeld v o
     → w.simulated ≡ v.simulated → v.faults ≤ w.faults → IsOpenedAt w s o p
 opened_at leftovers one_only v w s o p law down h name read told drawn held same later = elim (is_true_or_false p.told) [
@@ -338,6 +334,10 @@ load_faulted leftovers v w s k before now law down moments lefts still same coun
 pub load_cut : (leftovers : Leftovers) (v w : View) (s : Site) → IsLawful w → s.state ≡ Down → OpensAtMoments v w → OpensSo v w → (IsSome v.content → IsSome w.content) → w.simulated ≡ v.simulated → v.faults ≤ w.faults → IsCutAt (start s.name) v s w
 load_cut leftovers v w s law down moments lefts still same later p h = begun_cut leftovers w s p law (load_begun v w s p law down h moments lefts still same) (omega (arith, later, h.disk.faults))
 
+-- so it is of an opening that failed
+pub unopened_cut : (leftovers : Leftovers) (v w : View) (error : SiteError) (s : Site) → IsLawful w → s.state ≡ Down → FailsToOpen v error w → IsCutAt (start s.name) v s w
+unopened_cut leftovers v w error s law down f = load_cut leftovers v w s law down f.any_moment f.left f.still_told f.simulated f.faults.later
+
 -- there is no generation left
 load_limit_told : (v w : View) (s : Site) (before now : List ℕ) (p : Place) → IsLawful w → s.state ≡ Down → IsAt v s p → p.told ≡ true → IfSome v.content (λ files. (c : Contents) → IsSite files c → 65534 ≤ generation c.instance)
     → IfSome v.content (LimitedBy GenLimit) → w.content ≡ v.content → AtEachMoment v w (Image v) → w.simulated ≡ v.simulated → v.faults ≤ w.faults → now ≡ before ++ line s.name (codes "GENLIMIT") → Answers w s p s before now false
@@ -404,7 +404,7 @@ cut_named (Map region star name ∷ rs) n g = refl
 cut_named (Mode region before ∷ rs) n g = refl
 
 -- another site stands there, which no known files tell
-pub load_other : (v w : View) (s : Site) (o : OpenSite) (before now : List ℕ) → s.state ≡ Down → (site_name o.instance.records ≡ s.name → ⊥) → Opens v w o → OpensHeld v o
+pub load_other : (v w : View) (s : Site) (o : Memory) (before now : List ℕ) → s.state ≡ Down → (site_name o.instance.records ≡ s.name → ⊥) → Opens v w o → OpensHeld v o
     → w.simulated ≡ v.simulated → v.faults ≤ w.faults → now ≡ before ++ line s.name (codes "NOTAFILE " ++ decimal 0 ++ 32 ∷ decimal 0) → ExecutesAt (start s.name) v s w s before now false
 load_other v w s o before now down other told held same later t p h =
     comes_damaged 0 0 (changed p w) (early_down s p down h.site) (inr (refl, refl, changes_unknown w p unsure (omega (arith, later, h.disk.faults)), of_another))
@@ -426,19 +426,18 @@ load_other v w s o before now down other told held same later t p h =
 -- Beginning the reign of a site that was opened.
 
 -- what the call says of each moment, and of the disk after it
-pub record Moments (v w : View) (o : OpenSite) : Type 1 where
+pub record Moments (v w : View) (o : Memory) : Type 1 where
   pub lawful : IsLawful w
-  pub any_moment : (c : Contents) → IsOpen v true c (length c.sequence) o → AtEachMoment v w (λ f. IsSite f c ⊎ IsSite f (with_reign (site_name c.instance) c))
   pub left : (c : Contents) → IsOpen v true c (length c.sequence) o → AtEachMoment v w (λ f. IsSiteWith f (bare c) ⊎ IsSiteWith f (bare (with_reign (site_name c.instance) c)))
   pub still_told : IsSome v.content → IsSome w.content
   pub simulated : w.simulated ≡ v.simulated
   pub later : v.faults ≤ w.faults
 
-told_open : (v : View) (c : Contents) (n : ℕ) (o : OpenSite) → IsOpen v true c n o → IsSome v.content
+told_open : (v : View) (c : Contents) (n : ℕ) (o : Memory) → IsOpen v true c n o → IsSome v.content
 told_open v c n o h = told_is v.content _ (h.kept refl).reads
 
 -- the standings while the reign began
-reigned_so : (v w : View) (s : Site) (o : OpenSite) (p : Place) → Moments v w o → IsOpenedAt v s o p → p.told ≡ true → ImagesStand w (begins_so s.name p.standings)
+reigned_so : (v w : View) (s : Site) (o : Memory) (p : Place) → Moments v w o → IsOpenedAt v s o p → p.told ≡ true → ImagesStand w (begins_so s.name p.standings)
 reigned_so v w s o p m h sure = among p.standings (h.standing sure)
   where
     d : Contents
@@ -464,7 +463,7 @@ reigned_so v w s o p m h sure = among p.standings (h.standing sure)
           )
         ]
 
-reign_begun : (v w : View) (s : Site) (o : OpenSite) (p : Place) → Moments v w o → IsOpenedAt v s o p → MayHaveBegun w s p
+reign_begun : (v w : View) (s : Site) (o : Memory) (p : Place) → Moments v w o → IsOpenedAt v s o p → MayHaveBegun w s p
 reign_begun v w s o p m h = record {
   still_told = λ sure. let k = h.outcome sure in m.still_told (told_open v (opened p.left.broken k.0) (length k.0.sequence) o k.2);
   images = λ sure f i.
@@ -472,20 +471,20 @@ reign_begun v w s o p m h = record {
       let c : Contents = k.0 in
       let d : Contents = opened p.left.broken c in
       let name : site_name d.instance ≡ s.name = sym (ap site_name k.2.remembered.instance) ∙ h.name in
-      elim (at_moment v w _ f m.lawful (m.any_moment d k.2) i) [
-        | inl before ↦ (d, (c, k.1, inl (inr (length (regions c.instance), refl))), inr before)
-        | inr begun ↦ (with_reign s.name d, (c, k.1, inr refl), inr (subst (λ (n : Name). IsSite f (with_reign n d)) name begun))
+      elim (at_moment v w _ f m.lawful (m.left d k.2) i) [
+        | inl before ↦ (d, (c, k.1, inl (inr (length (regions c.instance), refl))), inr before.site)
+        | inr begun ↦ (with_reign s.name d, (c, k.1, inr refl), inr (subst (λ (n : Name). IsSite f (with_reign n d)) name begun.site))
       ];
   standings = λ sure. reigned_so v w s o p m h sure;
   simulated = m.simulated ∙ h.simulated;
 }
 
-pub reign_faulted : (leftovers : Leftovers) (v w : View) (s : Site) (o : OpenSite) (k : ℕ) (before now : List ℕ) → Moments v w o → k ≡ w.faults → Rose v.faults w.faults → now ≡ before ++ line s.name (codes "DISKFAULT " ++ decimal k)
-    → BeginsAt v o s w (record { name = s.name; state = Failed k }) before now false
+pub reign_faulted : (leftovers : Leftovers) (v w : View) (s : Site) (o : Memory) (k : ℕ) (before now : List ℕ) → Moments v w o → k ≡ w.faults → Rose v.faults w.faults → now ≡ before ++ line s.name (codes "DISKFAULT " ++ decimal k)
+    → Begins v o s w (record { name = s.name; state = Failed k }) before now false
 reign_faulted leftovers v w s o k before now m count rose t p h =
     begun_fault leftovers w s p k before now m.lawful h.down h.site h.made (reign_begun v w s o p m h) count (omega (arith, rose, h.faults)) t
 
-pub reign_cut : (leftovers : Leftovers) (v w : View) (s : Site) (o : OpenSite) → Moments v w o → IsCutOpened v o s w
+pub reign_cut : (leftovers : Leftovers) (v w : View) (s : Site) (o : Memory) → Moments v w o → IsCutOpened v o s w
 reign_cut leftovers v w s o m p h = begun_cut leftovers w s p m.lawful (reign_begun v w s o p m h) (omega (arith, m.later, h.faults))
 
 limit_is : (c : Contents) (none_left : Bool) → no_reign_left c ≡ none_left → reign_limit c ≡ (if none_left then Some ReignLimit else None)
@@ -512,11 +511,11 @@ before_last (x ∷ xs) (y ∷ ys) a b e =
     ap (λ (r : InstanceRecord). r ∷ xs) first ∙ ap (λ (l : List InstanceRecord). y ∷ l) (before_last xs ys a b rest)
 
 -- as many entries are remembered as the bytes' sequence has
-count_same : (o : OpenSite) (u : Records) (seq : Sequence) (c : Contents) (n : ℕ) → WasOpenedFrom u seq o → Remembers c n o → length c.sequence ≡ length seq
+count_same : (o : Memory) (u : Records) (seq : Sequence) (c : Contents) (n : ℕ) → WasOpenedFrom u seq o → Remembers c n o → length c.sequence ≡ length seq
 count_same o u seq c n from remembered = sym (entries_count c n o remembered) ∙ from.count
 
 -- and its records are those
-records_same : (o : OpenSite) (u : Records) (seq : Sequence) (broken : List ℕ) (c : Contents) (n : ℕ) → WasOpenedFrom u seq o → Remembers (opened broken c) n o → c.instance ≡ u.instance
+records_same : (o : Memory) (u : Records) (seq : Sequence) (broken : List ℕ) (c : Contents) (n : ℕ) → WasOpenedFrom u seq o → Remembers (opened broken c) n o → c.instance ≡ u.instance
 records_same o u seq broken c n from remembered = before_last c.instance u.instance _ _ (sym remembered.instance ∙ from.instance)
 
 -- records and a length decide the limit of reigns
@@ -525,19 +524,19 @@ limit_alike c d records count =
     let limit = λ (n : ℕ) (rs : List InstanceRecord). (if nat_le MOST_REIGNS (length (filter (λ r. nat_le r.start n) (reigns rs))) || greatest_cycle rs == LAST_CYCLE then Some ReignLimit else None) in
     ap (λ (n : ℕ). limit n c.instance) count ∙ ap (limit (length d.sequence)) records
 
-limit_by : (o : OpenSite) (u : Records) (seq : Sequence) (broken : List ℕ) (c : Contents) (n : ℕ) (none_left : Bool) → WasOpenedFrom u seq o → Remembers (opened broken c) n o → no_reign_left (opened broken c) ≡ none_left
+limit_by : (o : Memory) (u : Records) (seq : Sequence) (broken : List ℕ) (c : Contents) (n : ℕ) (none_left : Bool) → WasOpenedFrom u seq o → Remembers (opened broken c) n o → no_reign_left (opened broken c) ≡ none_left
     → no_reign_left (read_so u seq) ≡ none_left
 limit_by o u seq broken c n none_left from remembered limit =
     limit_same (no_reign_left (read_so u seq)) none_left
     (sym (limit_alike c (read_so u seq) (records_same o u seq broken c n from remembered) (count_same o u seq (opened broken c) n from remembered)) ∙ sym (limit_opened broken c) ∙ limit_is (opened broken c) none_left limit)
 
-limited_by : (v : View) (s : Site) (o : OpenSite) (p : Place) → IsOpenedAt v s o p → ((c : Contents) (n : ℕ) → Remembers c n o → no_reign_left c ≡ true) → IfShown p (LimitedBy ReignLimit)
+limited_by : (v : View) (s : Site) (o : Memory) (p : Place) → IsOpenedAt v s o p → ((c : Contents) (n : ℕ) → Remembers c n o → no_reign_left c ≡ true) → IfShown p (LimitedBy ReignLimit)
 limited_by v s o p h limit =
     if_some p.shown (HeldBy o) (LimitedBy ReignLimit)
     (λ f k. (k.0, k.1, k.2, k.3, limit_by o k.0 k.1 h.broken h.read (length h.read.sequence) true k.4.0 h.is_open.remembered (limit (opened h.broken h.read) (length h.read.sequence) h.is_open.remembered))) h.held
 
 -- the site was opened by its bytes, past no limit
-started_by : (v : View) (s : Site) (o : OpenSite) (p : Place) → IsOpenedAt v s o p → ((c : Contents) (n : ℕ) → Remembers c n o → no_reign_left c ≡ false) → IfShown p (StartedBy s.name)
+started_by : (v : View) (s : Site) (o : Memory) (p : Place) → IsOpenedAt v s o p → ((c : Contents) (n : ℕ) → Remembers c n o → no_reign_left c ≡ false) → IfShown p (StartedBy s.name)
 started_by v s o p h room =
     if_some p.shown (HeldBy o) (StartedBy s.name)
     (λ f k. (
@@ -548,7 +547,7 @@ started_by v s o p h room =
       (sym (ap site_name k.4.0.instance ∙ cut_named k.0.instance _ _) ∙ h.name, k.4.1, limit_by o k.0 k.1 h.broken h.read (length h.read.sequence) false k.4.0 h.is_open.remembered (room (opened h.broken h.read) (length h.read.sequence) h.is_open.remembered), k.4.2),
     )) h.held
 
-read_by : (v : View) (s : Site) (o : OpenSite) (p : Place) (h : IsOpenedAt v s o p) → IfShown p (BySequence (λ u seq. (h.read.instance ≡ u.instance) × (length h.read.sequence ≡ length seq)))
+read_by : (v : View) (s : Site) (o : Memory) (p : Place) (h : IsOpenedAt v s o p) → IfShown p (BySequence (λ u seq. (h.read.instance ≡ u.instance) × (length h.read.sequence ≡ length seq)))
 read_by v s o p h =
     if_some p.shown (HeldBy o) (BySequence (λ u seq. (h.read.instance ≡ u.instance) × (length h.read.sequence ≡ length seq)))
     (λ f k. (
@@ -560,9 +559,9 @@ read_by v s o p h =
     )) h.held
 
 -- there is no reign left
-reign_limit_told : (v : View) (nothing : NothingIsLeft v) (s : Site) (o : OpenSite) (before now : List ℕ) (p : Place) → IsLawful v → IsOpenedAt v s o p → p.told ≡ true → ((c : Contents) (n : ℕ) → Remembers c n o → no_reign_left c ≡ true)
+reign_limit_told : (v : View) (s : Site) (o : Memory) (nothing : NothingIsLeft v o) (before now : List ℕ) (p : Place) → IsLawful v → IsOpenedAt v s o p → p.told ≡ true → ((c : Contents) (n : ℕ) → Remembers c n o → no_reign_left c ≡ true)
     → now ≡ before ++ line s.name (codes "REIGNLIMIT") → Answers v s p s before now false
-reign_limit_told v nothing s o before now p law h sure limit t =
+reign_limit_told v s o nothing before now p law h sure limit t =
     let c : Contents = opened p.left.broken p.now in
     let is_open : IsOpen v p.told c (length c.sequence) o = subst (λ (x : Contents). IsOpen v p.told (opened p.left.broken x) (length x.sequence) o) (h.as_before sure)
     (subst (λ (b : List ℕ). IsOpen v p.told (opened b h.read) (length h.read.sequence) o) (h.as_left sure) h.is_open) in
@@ -576,34 +575,34 @@ reign_limit_told v nothing s o before now p law h sure limit t =
     (record { site = refl; known = record { told = refl; now = refl; left = refl; outcomes = refl; standings = refl }; faults = h.faults; simulated = refl })
     (limited_by v s o p h limit)
     (record {
-      disk = place_of_one v p q.site c h.simulated (λ is. open_reads v nothing p.told c o law is is_open) (λ is. open_images v nothing p.told c o is is_open);
+      disk = place_of_one v p q.site c h.simulated (λ is. open_reads v o nothing p.told c law is is_open) (λ is. open_images v o nothing p.told c is is_open);
       site = ap (in_new_state world.Down) h.site ∙ ap (λ (x : world.State). Some (record { name = s.name; state = x })) (ap state_value (sym h.down));
       held = record { made = λ is. record { now = of; outcomes = λ x j. subst (IsOf s.name) (sym (only x c j)) of }; state = subst (λ (x : State). HoldsState v x q) (sym h.down) tt };
     })
     t
 
-reign_limit_untold : (v : View) (s : Site) (o : OpenSite) (before now : List ℕ) (p : Place) → IsOpenedAt v s o p → p.told ≡ false → ((c : Contents) (n : ℕ) → Remembers c n o → no_reign_left c ≡ true) → now ≡ before ++ line s.name (codes "REIGNLIMIT") → Answers v s p s before now false
+reign_limit_untold : (v : View) (s : Site) (o : Memory) (before now : List ℕ) (p : Place) → IsOpenedAt v s o p → p.told ≡ false → ((c : Contents) (n : ℕ) → Remembers c n o → no_reign_left c ≡ true) → now ≡ before ++ line s.name (codes "REIGNLIMIT") → Answers v s p s before now false
 reign_limit_untold v s o before now p h unsure limit t =
     comes_may_refuse (record { site = s.name; cause = ReignLimit }) (changed p v) (early_down s p h.down h.site)
     (refl, inr (inl (refl, changes_unknown v p unsure h.faults))) (limited_by v s o p h limit) (changed_at v s p h.down h.site unsure h.simulated) t
 
-pub reign_limited : (v : View) (nothing : NothingIsLeft v) (s : Site) (o : OpenSite) (before now : List ℕ) → IsLawful v → ((c : Contents) (n : ℕ) → Remembers c n o → no_reign_left c ≡ true) → now ≡ before ++ line s.name (codes "REIGNLIMIT") → BeginsAt v o s v s before now false
-reign_limited v nothing s o before now law limit t p h = elim (is_true_or_false p.told) [
-  | inl sure ↦ reign_limit_told v nothing s o before now p law h sure limit t
+pub reign_limited : (v : View) (s : Site) (o : Memory) (nothing : NothingIsLeft v o) (before now : List ℕ) → IsLawful v → ((c : Contents) (n : ℕ) → Remembers c n o → no_reign_left c ≡ true) → now ≡ before ++ line s.name (codes "REIGNLIMIT") → Begins v o s v s before now false
+reign_limited v s o nothing before now law limit t p h = elim (is_true_or_false p.told) [
+  | inl sure ↦ reign_limit_told v s o nothing before now p law h sure limit t
   | inr unsure ↦ reign_limit_untold v s o before now p h unsure limit t
 ]
 
-entries_open : (v : View) (told : Bool) (c : Contents) (n : ℕ) (o : OpenSite) → IsOpen v told c n o → count_of o ≡ length c.sequence
+entries_open : (v : View) (told : Bool) (c : Contents) (n : ℕ) (o : Memory) → IsOpen v told c n o → count_of o ≡ length c.sequence
 entries_open v told c n o h = entries_count c n o h.remembered
 
 -- the reign has begun
-pub reign_starts : (v w : View) (nothing : NothingIsLeft w) (s : Site) (o new : OpenSite) (stamp : Stamp) (serials : List ℕ) (from : ℕ) (before now : List ℕ) → IsLawful w → serials ≡ FIRST_SERIALS
+pub reign_starts : (v w : View) (s : Site) (o new : Memory) (nothing : NothingIsLeft w new) (stamp : Stamp) (serials : List ℕ) (from : ℕ) (before now : List ℕ) → IsLawful w → serials ≡ FIRST_SERIALS
     → ((told : Bool) (c : Contents) → IsOpen v told c (length c.sequence) o → IsOpen w told (with_reign (site_name c.instance) c) (length c.sequence) new)
     → ((c : Contents) → c.instance ≡ o.instance.records → stamp_value stamp ≡ next_stamp (site_name c.instance) c) → new.stamp ≡ Some stamp
     → ((c : Contents) (n : ℕ) → Remembers c n o → no_reign_left c ≡ false) → w.simulated ≡ v.simulated → v.faults ≤ w.faults
     → from ≡ count_of o + 1 → now ≡ before ++ line s.name (codes "PRIMARY " ++ decimal stamp.cycle ++ codes " FROM " ++ decimal from)
-    → BeginsAt v o s w (record { name = s.name; state = Primary (record { site = new; serials = serials }) }) before now true
-reign_starts v w nothing s o new stamp serials from before now law first_serials begun drawn stamped room same later is_from t p h =
+    → Begins v o s w (record { name = s.name; state = Primary (record { site = new; serials = serials }) }) before now true
+reign_starts v w s o new nothing stamp serials from before now law first_serials begun drawn stamped room same later is_from t p h =
     let read : Contents = h.read in
     let c : Contents = opened h.broken read in
     let d : Contents = with_reign s.name c in
@@ -631,7 +630,7 @@ reign_starts v w nothing s o new stamp serials from before now law first_serials
     })
     (started_by v s o p h room)
     (record {
-      disk = place_of_one w p q.site d (same ∙ h.simulated) (λ sure. open_reads w nothing p.told d new law sure is_open) (λ sure. open_images w nothing p.told d new sure is_open);
+      disk = place_of_one w p q.site d (same ∙ h.simulated) (λ sure. open_reads w new nothing p.told d law sure is_open) (λ sure. open_images w new nothing p.told d sure is_open);
       site = ap (in_new_state state) h.site ∙ ap (λ (x : world.State). Some (record { name = s.name; state = x })) (states_same stamp_new first_serials);
       held = record {
         made = λ sure. record { now = of sure; outcomes = λ x j. subst (IsOf s.name) (sym (only x d j)) (of sure) };
@@ -646,12 +645,19 @@ reign_starts v w nothing s o new stamp serials from before now law first_serials
 
 -- Beginning and opening together.
 
-pub starts_so : (leftovers : Leftovers) (one_only : StandForOne) (v w u : View) (s new : Site) (o : OpenSite) (before now : List ℕ) (done : Bool) → IsLawful v → s.state ≡ Down → site_name o.instance.records ≡ s.name → ((c : Contents) × (broken : List ℕ) × Remembers (opened broken c) (length c.sequence) o)
-    → Opens v w o → HasGenerations v → OpensHeld v o
-    → w.simulated ≡ v.simulated → v.faults ≤ w.faults → BeginsAt w o s u new before now done → ExecutesAt (start s.name) v s u new before now done
-starts_so leftovers one_only v w u s new o before now done law down name read told drawn held same later b p h = b p (opened_at leftovers one_only v w s o p law down h name read told drawn held same later)
+-- by the slot and the end that were answered
+pub begins_by : {D : Type 0} (view : D → View) (v w : View) (o : Memory) (name : Name) (after : Ended → Site) (r : Slot D × Result Ended NoMemory) (ended : Result Ended NoMemory) (before now : List ℕ) → view (disk_in r.0) ≡ w → IfOk ended (λ e. site_in r.0 ≡ Some (after e)) → r.1 ≡ ended
+    → IfOk ended (λ e. Begins v o (down name) w (after e) before now (is_done_at e)) → OnErr ended (IsCutOpened v o (down name) w) → BeginsAt view v o (down name) r before now
+begins_by {D} view v w o name after r ended before now d f same x c = subst (λ (y : Result Ended NoMemory). BeginsAt view v o (down name) (r.0, y) before now) (sym same) (by_end ended f x c)
+  where
+    by_end : (y : Result Ended NoMemory) → IfOk y (λ e. site_in r.0 ≡ Some (after e)) → IfOk y (λ e. Begins v o (down name) w (after e) before now (is_done_at e)) → OnErr y (IsCutOpened v o (down name) w) → BeginsAt view v o (down name) (r.0, y) before now
+    by_end (Ok e) f x c p h = comes_so (λ q g. placed view r.0 w (after e) q d f g) (x p h)
+    by_end (Err n) f x c p h = let q = c p h in (q.0, q.1, subst (λ (u : View). Matches u q.0) (sym d) q.2)
 
-pub starts_cut : (leftovers : Leftovers) (one_only : StandForOne) (v w u : View) (s : Site) (o : OpenSite) → IsLawful v → s.state ≡ Down → site_name o.instance.records ≡ s.name → ((c : Contents) × (broken : List ℕ) × Remembers (opened broken c) (length c.sequence) o)
-    → Opens v w o → HasGenerations v → OpensHeld v o
-    → w.simulated ≡ v.simulated → v.faults ≤ w.faults → IsCutOpened w o s u → IsCutAt (start s.name) v s u
-starts_cut leftovers one_only v w u s o law down name read told drawn held same later b p h = b p (opened_at leftovers one_only v w s o p law down h name read told drawn held same later)
+pub starts_so : {D : Type 0} (leftovers : Leftovers) (one_only : StandForOne) (view : D → View) (disk : D) (name : Name) (w : View) (o : Memory) (r : Slot D × Result Ended NoMemory) (before now : List ℕ) → IsLawful (view disk) → site_name o.instance.records ≡ name
+    → ((c : Contents) × (broken : List ℕ) × Remembers (opened broken c) (length c.sequence) o) → Opens (view disk) w o → HasGenerations (view disk) → OpensHeld (view disk) o → w.simulated ≡ (view disk).simulated → (view disk).faults ≤ w.faults
+    → BeginsAt view w o (down name) r before now → Leaves view (row_at start) (slots.Down disk name) r before now
+starts_so {D} leftovers one_only view disk name w o r before now law named read told drawn held same later b p h =
+    let at_p = slot_at view (slots.Down disk name) (down name) p refl h in
+    subst (λ (n : Name). Becomes view (start n p) p r.0 r.1 before now) (sym (ap name_on at_p.site))
+    (b p (opened_at leftovers one_only (view disk) w (down name) o p law refl at_p named read told drawn held same later))

@@ -1,6 +1,6 @@
 -- Commands on a site, as commands on its slot; ZWRITE and SHOW at a place.
-use Rattle.std.proofs.Common.{◌≡◌, ℕ, true, List, [], ◌∷◌, ◌++◌, length, map, Some, refl, sym, ◌∙◌, ap, subst, arith, inl, nat_eq, append_assoc, Bool, None}
-use Rattle.std.specs.Prelude.{Option, codes, option_map, Result, IfOk, OnErr}
+use Rattle.std.proofs.Common.{◌≡◌, ℕ, true, List, [], ◌∷◌, ◌++◌, length, map, Some, refl, sym, ◌∙◌, ap, subst, arith, inl, nat_eq, append_assoc, Bool, None, Box, Global}
+use Rattle.std.specs.Prelude.{Option, codes, option_map, Result, Ok, Err, IfOk, OnErr}
 use Rattle.std.specs.Fmt.{decimal}
 use Rattle.std.specs.List.{flat_map}
 use Rattle.std.proofs.lemmas.Bool.{eqb-true}
@@ -25,21 +25,22 @@ use Rattle.world_defs.specs.rows.Show.{reign_text, show_state, show_on, show}
 use Rattle.world_defs.specs.rows.Zwrite as rows
 use Rattle.site_defs.specs.Texts.{zwrite}
 use Rattle.region_store.specs.Joined.{joined}
-use Rattle.repl_section.specs.declared.reign.Reign.{Reign}
-use Rattle.repl_section.specs.Reigns.{Reigns, stamp_of}
-use Rattle.site_runner.specs.declared.slot.State.{State}
-use Rattle.site_runner.specs.declared.slot.State.TheVariants.{Down, Primary, Failed}
-use Rattle.site_runner.specs.declared.slot.Site.{Site}
 use Rattle.site_runner.specs.declared.slot.Slot.{Slot}
-use Rattle.site_runner.specs.Sites.{site_value, state_value, is_slot_named, IsOpen, HoldsState, HoldsSite}
-use Rattle.site_runner.specs.Executes.{Comes, ExecutesHere, IsCutHere}
+use Rattle.site_runner.specs.Sites.{site_value, state_value, IsOpen, HoldsState, HoldsSite, State, Down, Primary, Failed, Site, Reign, Reigns, stamp_of, disk_in, site_in, IsHeld}
+use Rattle.site_runner.specs.Executes.{Comes, ExecutesHere, IsCutHere, Leaves}
 use Rattle.site_runner.specs.Tied.{IsPlace}
 use Rattle.site_runner.proofs.Results.{on_errs, err_holds}
 use Rattle.site_runner.proofs.Remembered.{entries_count}
 use Rattle.site_runner.specs.Steps.{state_text, IsAt, ExecutesAt, IsCutAt}
 use Rattle.site_runner.proofs.Cuts.{split_and}
-use Rattle.site_runner.proofs.Ats.{stand_same, left_old, comes_done, comes_so, on_done, state_at, kept_same}
+use Rattle.site_runner.proofs.Ats.{stand_same, left_old, comes_done, comes_so, state_at, kept_same}
 use Rattle.site_store.specs.Site.{count_of}
+use Rattle.site_runner.specs.Ending.{is_done_at, down, down_after, primary, primary_after}
+use Rattle.site_runner.specs.declared.slot.Slot.TheVariants as slots
+use Rattle.repl_section.specs.declared.reign.Reign as code
+use Rattle.site_store.specs.Owning.{disk_of}
+use Rattle.site_runner.specs.declared.ending.Ended.{Ended}
+use Rattle.gvn_key.specs.declared.bytes.NoMemory.{NoMemory}
 
 pub names_same : (a b : Name) → same_name a b ≡ true → a ≡ b
 names_same [] [] e = refl
@@ -49,47 +50,81 @@ names_same (x ∷ a) (y ∷ b) e =
     let s = split_and (nat_eq x y) (same_name a b) e in
     ap (λ (k : ℕ). k ∷ a) (eqb-true x y s.0) ∙ ap (λ (l : Name). y ∷ l) (names_same a b s.1)
 
--- the site in a slot of that name has the name
-pub named_site : {D : Type 0} (slot : Slot D) (site : Site) (name : Name) → slot.site ≡ Some site → is_slot_named name slot ≡ true → site.name ≡ name
-named_site slot site name e t = names_same site.name name (sym (ap (λ (o : Option Site). world.is_site_named name (option_map site_value o)) e) ∙ t)
-
 -- a slot's place is the site's
-pub slot_at : {D : Type 0} (view : D → View) (old : Slot D) (site : Site) (p : Place) → old.site ≡ Some site → IsPlace view old p → IsAt (view old.disk) site p
-slot_at view old site p e h = record { disk = h.disk; site = h.site ∙ ap (option_map site_value) e; held = subst (λ (o : Option Site). HoldsSite (view old.disk) o p) e h.held }
+pub slot_at : {D : Type 0} (view : D → View) (old : Slot D) (site : Site) (p : Place) → site_in old ≡ Some site → IsPlace view old p → IsAt (view (disk_in old)) site p
+slot_at view old site p e h = record { disk = h.disk; site = h.site ∙ ap (option_map site_value) e; held = subst (λ (o : Option Site). HoldsSite (view (disk_in old)) o p) e h.held }
+
+pub placed : {D : Type 0} (view : D → View) (slot : Slot D) (w : View) (s : Site) (q : Place) → view (disk_in slot) ≡ w → site_in slot ≡ Some s → IsAt w s q → IsPlace view slot q
+placed view slot w s q d e g = record {
+  disk = subst (λ (v : View). Matches v q) (sym d) g.disk;
+  site = g.site ∙ ap (option_map site_value) (sym e);
+  held = subst (λ (o : Option Site). HoldsSite (view (disk_in slot)) o q) (sym e) (subst (λ (v : View). IsHeld v s q) (sym d) g.held);
+}
 
 -- a row at the site is one at its slot
-pub executes_here : {D : Type 0} (view : D → View) (row : Name → Place → Row) (old : Slot D) (disk : D) (site new : Site) (before now : List ℕ) (done : Bool) → old.site ≡ Some site
-    → ExecutesAt (row site.name) (view old.disk) site (view disk) new before now done → ExecutesHere view (row_at row) old (record { disk = disk; site = Some new }) before now done
-executes_here {D} view row old disk site new before now done e x p h =
+pub executes_here : {D : Type 0} (view : D → View) (row : Name → Place → Row) (old left : Slot D) (w : View) (site new : Site) (before now : List ℕ) (done : Bool) → site_in old ≡ Some site → view (disk_in left) ≡ w → site_in left ≡ Some new
+    → ExecutesAt (row site.name) (view (disk_in old)) site w new before now done → ExecutesHere view (row_at row) old left before now done
+executes_here {D} view row old left w site new before now done e d f x p h =
     let at_p = slot_at view old site p e h in
     let r = x p at_p in
-    let left : Slot D = record { disk = disk; site = Some new } in
-    subst (λ (n : Name). Comes (row n p) (IsPlace view left) before now done) (sym (ap name_on at_p.site)) (comes_so (λ q g. record { disk = g.disk; site = g.site; held = g.held }) r)
+    subst (λ (n : Name). Comes (row n p) (IsPlace view left) before now done) (sym (ap name_on at_p.site)) (comes_so (λ q g. placed view left w new q d f g) r)
 
-pub cut_here : {D : Type 0} (view : D → View) (row : Name → Place → Row) (old new : Slot D) (site : Site) → old.site ≡ Some site → IsCutAt (row site.name) (view old.disk) site (view new.disk) → IsCutHere view (row_at row) old new
-cut_here view row old new site e x p h =
+pub cut_here : {D : Type 0} (view : D → View) (row : Name → Place → Row) (old new : Slot D) (w : View) (site : Site) → site_in old ≡ Some site → view (disk_in new) ≡ w → IsCutAt (row site.name) (view (disk_in old)) site w → IsCutHere view (row_at row) old new
+cut_here view row old new w site e d x p h =
     let at_p = slot_at view old site p e h in
-    subst (λ (n : Name). (q : Place) × LeftByRow (row n p) p q × Matches (view new.disk) q) (sym (ap name_on at_p.site)) (x p at_p)
+    let r = subst (λ (n : Name). (q : Place) × LeftByRow (row n p) p q × Matches w q) (sym (ap name_on at_p.site)) (x p at_p) in
+    (r.0, r.1, subst (λ (v : View). Matches v r.0) (sym d) r.2)
+
+-- a command on a slot was executed or cut off
+pub leaves : {D : Type 0} (view : D → View) (row : Place → Row) (old new : Slot D) (ended : Result Ended NoMemory) (before now : List ℕ) → IfOk ended (λ e. ExecutesHere view row old new before now (is_done_at e)) → OnErr ended (IsCutHere view row old new)
+    → Leaves view row old (new, ended) before now
+leaves view row old new (Ok e) before now done cut p h = done p h
+leaves view row old new (Err e) before now done cut p h = cut p h
+
+-- so it is of a site, by what the command left of it
+pub leaves_at : {D : Type 0} (view : D → View) (row : Name → Place → Row) (old new : Slot D) (w : View) (site : Site) (after : Ended → Site) (ended : Result Ended NoMemory) (before now : List ℕ) → site_in old ≡ Some site → view (disk_in new) ≡ w
+    → IfOk ended (λ e. site_in new ≡ Some (after e)) → IfOk ended (λ e. ExecutesAt (row site.name) (view (disk_in old)) site w (after e) before now (is_done_at e)) → OnErr ended (IsCutAt (row site.name) (view (disk_in old)) site w)
+    → Leaves view (row_at row) old (new, ended) before now
+leaves_at view row old new w site after (Ok e) before now is d f x c p h = executes_here view row old new w site (after e) before now (is_done_at e) is d f x p h
+leaves_at view row old new w site after (Err e) before now is d f x c p h = cut_here view row old new w site is d c p h
+
+-- and so by the slot and the end that were answered
+pub leaves_so : {D : Type 0} (view : D → View) (row : Name → Place → Row) (old : Slot D) (w : View) (site : Site) (after : Ended → Site) (r : Slot D × Result Ended NoMemory) (ended : Result Ended NoMemory) (before now : List ℕ) → site_in old ≡ Some site → view (disk_in r.0) ≡ w
+    → IfOk ended (λ e. site_in r.0 ≡ Some (after e)) → r.1 ≡ ended → IfOk ended (λ e. ExecutesAt (row site.name) (view (disk_in old)) site w (after e) before now (is_done_at e)) → OnErr ended (IsCutAt (row site.name) (view (disk_in old)) site w)
+    → Leaves view (row_at row) old r before now
+leaves_so {D} view row old w site after r ended before now is d f same x c =
+    subst (λ (y : Result Ended NoMemory). Leaves view (row_at row) old (r.0, y) before now) (sym same) (leaves_at view row old r.0 w site after ended before now is d f x c)
+
+-- a site that was down, by what `closed` makes of it
+pub closed_leaves : {D : Type 0} (view : D → View) (row : Name → Place → Row) (disk : D) (name n : Name) (w : View) (r : Slot D × Result Ended NoMemory) (ended : Result Ended NoMemory) (before now : List ℕ) → n ≡ name → view (disk_in r.0) ≡ w
+    → IfOk ended (λ e. site_in r.0 ≡ Some (down_after name e)) → r.1 ≡ ended → IfOk ended (λ e. ExecutesAt (row n) (view disk) (down n) w (down_after n e) before now (is_done_at e)) → OnErr ended (IsCutAt (row n) (view disk) (down n) w)
+    → Leaves view (row_at row) (slots.Down disk name) r before now
+closed_leaves {D} view row disk name n w r ended before now e d f same x c =
+    leaves_so view row (slots.Down disk name) w (down name) (down_after name) r ended before now refl d f same
+    (subst (λ (y : Name). IfOk ended (λ z. ExecutesAt (row y) (view disk) (down y) w (down_after y z) before now (is_done_at z))) e x)
+    (subst (λ (y : Name). OnErr ended (IsCutAt (row y) (view disk) (down y) w)) e c)
+
+-- a site that was open, by what `opened` makes of it
+pub opened_leaves : {D : Type 0} (view : D → View) (row : Name → Place → Row) (old : Box (code.Reign D) Global) (was new : code.Reign D) (name n : Name) (w : View) (r : Slot D × Result Ended NoMemory) (ended : Result Ended NoMemory) (before now : List ℕ) → was ≡ old.value → n ≡ name
+    → view (disk_in r.0) ≡ w → IfOk ended (λ e. site_in r.0 ≡ Some (primary_after name new e)) → r.1 ≡ ended → IfOk ended (λ e. ExecutesAt (row n) (view (disk_of was.site)) (primary n was) w (primary_after n new e) before now (is_done_at e))
+    → OnErr ended (IsCutAt (row n) (view (disk_of was.site)) (primary n was) w) → Leaves view (row_at row) (slots.Open old name) r before now
+opened_leaves {D} view row old was new name n w r ended before now at e d f same x c =
+    subst (λ (o : code.Reign D). Leaves view (row_at row) (slots.Open (record old { value = o }) name) r before now) at
+    (leaves_so view row (slots.Open (record old { value = was }) name) w (primary name was) (primary_after name new) r ended before now refl d f same
+    (subst (λ (y : Name). IfOk ended (λ z. ExecutesAt (row y) (view (disk_of was.site)) (primary y was) w (primary_after y new z) before now (is_done_at z))) e x)
+    (subst (λ (y : Name). OnErr ended (IsCutAt (row y) (view (disk_of was.site)) (primary y was) w)) e c))
 
 -- nothing was done to the disk
 pub cut_same : (row : Place → Row) (v : View) (s : Site) → IsCutAt row v s v
 cut_same row v s p h = (p, record { told = refl; outcomes = λ t o a. inl a; standings = λ t. left_old (row p).left_so p.standings p.standings (stand_same p.standings); faults = omega arith; simulated = refl }, h.disk)
 
-pub cut_nowhere : {E : Type 0} (result : Result Bool E) (row : Place → Row) (v : View) (s : Site) → OnErr result (IsCutAt row v s v)
+pub cut_nowhere : {E : Type 0} (result : Result Ended E) (row : Place → Row) (v : View) (s : Site) → OnErr result (IsCutAt row v s v)
 cut_nowhere result row v s = err_holds result _ (cut_same row v s)
 
-pub cut_unless : {D E : Type 0} (view : D → View) (result : Result Bool E) (row : Place → Row) (old new : D) (s : Site) → OnErr result (new ≡ old) → OnErr result (IsCutAt row (view old) s (view new))
+pub cut_unless : {D T E : Type 0} (view : D → View) (result : Result T E) (row : Place → Row) (old new : D) (s : Site) → OnErr result (new ≡ old) → OnErr result (IsCutAt row (view old) s (view new))
 cut_unless {D} view result row old new s h = on_errs result _ _ h (λ e. subst (λ (d : D). IsCutAt row (view old) s (view d)) (sym e) (cut_same row (view old) s))
 
 -- A command at a site in a slot.
-
-module _ {D E : Type 0} (view : D → View) (row : Name → Place → Row) (old : Slot D) (disk : D) (site new : Site) (result : Result Bool E) (e : old.site ≡ Some site) where
-  pub slot_done : (before now : List ℕ) → IfOk result (λ done. ExecutesAt (row site.name) (view old.disk) site (view disk) new before now done)
-      → IfOk result (λ done. ExecutesHere view (row_at row) old (record { disk = disk; site = Some new }) before now done)
-  slot_done before now h = on_done result _ _ h (λ done x. executes_here view row old disk site new before now done e x)
-
-  pub slot_cut : OnErr result (IsCutAt (row site.name) (view old.disk) site (view disk)) → OnErr result (IsCutHere view (row_at row) old (record { disk = disk; site = Some new }))
-  slot_cut h = on_errs result _ _ h (λ x. cut_here view row old (record { disk = disk; site = Some new }) site e x)
 
 pub open_at : (v : View) (s : Site) (r : Reign) (p : Place) → s.state ≡ Primary r → IsAt v s p → IsOpen v r p
 open_at v s r p e h = subst (λ (x : State). HoldsState v x p) e h.held.state
@@ -121,22 +156,13 @@ shows_at v s before now t p h =
     comes_done p refl (kept_same p) tt h (t ∙ ap (λ (x : List ℕ). before ++ x) (shown_state v s p s.state refl h) ∙ ap (λ (o : Option world.Site). before ++ show_on s.name o p.now) (sym h.site))
 
 -- what is shown of a site that is open, written in two steps
-pub state_written : (s : Site) (r : Reign) (n : Name) (cycle len : ℕ) (rs : List code_reign.Reign) (before mid now : List ℕ) → s.state ≡ Primary r → n ≡ s.name → cycle ≡ (stamp_of r).cycle → len ≡ count_of r.site
-    → map reign_value rs ≡ reigns r.site.instance.records → mid ≡ before ++ line n (codes "STATE PRIMARY " ++ decimal cycle ++ codes " LENGTH " ++ decimal len) → now ≡ mid ++ flat_map (λ x. line n (reign_text x)) (map reign_value rs)
-    → now ≡ before ++ state_text s.name s.state
-state_written s r n cycle len rs before mid now is e c l h m t =
-    let first : Name → ℕ → ℕ → List ℕ = λ (x : Name) (j k : ℕ). line x (codes "STATE PRIMARY " ++ decimal j ++ codes " LENGTH " ++ decimal k) in
-    let lines : Name → List defs.Reign → List ℕ = λ (x : Name). flat_map (λ (y : defs.Reign). line x (reign_text y)) in
-    t ∙ ap (λ (x : List ℕ). x ++ lines n (map reign_value rs)) m
-    ∙ append_assoc before (first n cycle len) (lines n (map reign_value rs))
-    ∙ ap (λ (x : Name). before ++ (first x cycle len ++ lines x (map reign_value rs))) e
-    ∙ ap (λ (x : ℕ). before ++ (first s.name x len ++ lines s.name (map reign_value rs))) c
-    ∙ ap (λ (x : ℕ). before ++ (first s.name (stamp_of r).cycle x ++ lines s.name (map reign_value rs))) l
-    ∙ ap (λ (x : List defs.Reign). before ++ (first s.name (stamp_of r).cycle (count_of r.site) ++ lines s.name x)) h
-    ∙ ap (λ (x : State). before ++ state_text s.name x) (sym is)
-
-pub down_written : (s : Site) (n : Name) (before now : List ℕ) → s.state ≡ Down → n ≡ s.name → now ≡ before ++ line n (codes "STATE DOWN") → now ≡ before ++ state_text s.name s.state
-down_written s n before now is e t = t ∙ ap (λ (x : Name). before ++ line x (codes "STATE DOWN")) e ∙ ap (λ (x : State). before ++ state_text s.name x) (sym is)
-
-pub failed_written : (s : Site) (n : Name) (k : ℕ) (before now : List ℕ) → s.state ≡ Failed k → n ≡ s.name → now ≡ before ++ line n (codes "STATE FAILED " ++ decimal k) → now ≡ before ++ state_text s.name s.state
-failed_written s n k before now is e t = t ∙ ap (λ (x : Name). before ++ line x (codes "STATE FAILED " ++ decimal k)) e ∙ ap (λ (x : State). before ++ state_text s.name x) (sym is)
+pub state_written : (n : Name) (r : Reign) (cycle len : ℕ) (rs : List code_reign.Reign) (before mid now : List ℕ) → cycle ≡ (stamp_of r).cycle → len ≡ count_of r.site → map reign_value rs ≡ reigns r.site.instance.records
+    → mid ≡ before ++ line n (codes "STATE PRIMARY " ++ decimal cycle ++ codes " LENGTH " ++ decimal len) → now ≡ mid ++ flat_map (λ x. line n (reign_text x)) (map reign_value rs) → now ≡ before ++ state_text n (Primary r)
+state_written n r cycle len rs before mid now c l h m t =
+    let first : ℕ → ℕ → List ℕ = λ (j k : ℕ). line n (codes "STATE PRIMARY " ++ decimal j ++ codes " LENGTH " ++ decimal k) in
+    let lines : List defs.Reign → List ℕ = flat_map (λ (x : defs.Reign). line n (reign_text x)) in
+    t ∙ ap (λ (x : List ℕ). x ++ lines (map reign_value rs)) m
+    ∙ append_assoc before (first cycle len) (lines (map reign_value rs))
+    ∙ ap (λ (x : ℕ). before ++ (first x len ++ lines (map reign_value rs))) c
+    ∙ ap (λ (x : ℕ). before ++ (first (stamp_of r).cycle x ++ lines (map reign_value rs))) l
+    ∙ ap (λ (x : List defs.Reign). before ++ (first (stamp_of r).cycle (count_of r.site) ++ lines x)) h

@@ -1,5 +1,5 @@
 -- What executing a row at its place is, and executing a command.
-use Rattle.std.specs.Prelude.{◌≡◌, ℕ, Bool, List, ◌++◌}
+use Rattle.std.specs.Prelude.{◌≡◌, ℕ, Bool, List, ◌++◌, Result, Ok, Err}
 use Rattle.disk_defs.specs.Disk.{View}
 use Rattle.command_defs.specs.Commands.{Command}
 use Rattle.world_defs.specs.World.{Place, World}
@@ -8,6 +8,10 @@ use Rattle.world_defs.specs.Row.{Row, Here}
 use Rattle.world_defs.specs.Step.{is_done, Step, LeftByRow, CutOff}
 use Rattle.world_defs.specs.Ties.{Matches}
 use Rattle.site_runner.specs.declared.slot.Slot.{Slot}
+use Rattle.gvn_key.specs.declared.bytes.NoMemory.{NoMemory}
+use Rattle.site_runner.specs.declared.ending.Ended.{Ended}
+use Rattle.site_runner.specs.Sites.{disk_in}
+use Rattle.site_runner.specs.Ending.{is_done_at}
 use Rattle.site_runner.specs.Tied.{IsPlace, Tied, Matched}
 
 -- The row with some answer leads to a place that has S; this is its text, and so whether it was done.
@@ -26,7 +30,16 @@ ExecutesHere view row old new before now done = (p : Place) → IsPlace view old
 
 -- It was cut off for want of memory.
 abbrev pub IsCutHere : {D : Type 0} → (D → View) → (Place → Row) → Slot D → Slot D → Type 0
-IsCutHere view row old new = (p : Place) → IsPlace view old p → (q : Place) × LeftByRow (row p) p q × Matches (view new.disk) q
+IsCutHere view row old new = (p : Place) → IsPlace view old p → (q : Place) × LeftByRow (row p) p q × Matches (view (disk_in new)) q
+
+-- What a command by this row made of a place, and how it ended: the slot that it left, or for want of memory the disk.
+abbrev pub Becomes : {D : Type 0} → (D → View) → Row → Place → Slot D → Result Ended NoMemory → List ℕ → List ℕ → Type 0
+Becomes view row p new (Ok ended) before now = Comes row (IsPlace view new) before now (is_done_at ended)
+Becomes view row p new (Err e) before now = (q : Place) × LeftByRow row p q × Matches (view (disk_in new)) q
+
+-- Whatever place the slot was, a command by this row led to such a slot and ended so.
+abbrev pub Leaves : {D : Type 0} → (D → View) → (Place → Row) → Slot D → Slot D × Result Ended NoMemory → List ℕ → List ℕ → Type 0
+Leaves view row old left before now = (p : Place) → IsPlace view old p → Becomes view (row p) p left.0 left.1 before now
 
 -- Whatever world the slots were, the command with some answers leads to one that they are, and this is its text.
 abbrev pub Executes : {D : Type 0} → (D → View) → Command → List (Slot D) → List (Slot D) → List ℕ → List ℕ → Type 0

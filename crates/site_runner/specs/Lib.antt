@@ -1,6 +1,7 @@
 pub mod Told
 pub mod Causes
 pub mod Sites
+pub mod Ending
 pub mod Tied
 pub mod Moved
 pub mod Executes

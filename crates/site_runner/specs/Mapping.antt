@@ -12,9 +12,7 @@ use Rattle.world_defs.specs.Step.{LeftByRow}
 use Rattle.world_defs.specs.Ties.{Matches}
 use Rattle.site_defs.specs.Stands.{Stands, Reads}
 use Rattle.site_defs.specs.Behind.{StandsSo}
-use Rattle.site_runner.specs.declared.slot.Site.{Site}
-use Rattle.site_runner.specs.declared.slot.State.TheVariants.{Down}
-use Rattle.site_runner.specs.Sites.{site_value, IsMade}
+use Rattle.site_runner.specs.Sites.{Down, Site, site_value, IsMade}
 use Rattle.site_runner.specs.Executes.{Comes}
 use Rattle.site_runner.specs.Steps.{IsAt}
 

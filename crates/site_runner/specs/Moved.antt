@@ -1,10 +1,7 @@
 -- Disks in slots.
-use Rattle.std.specs.Prelude.{None}
 use Rattle.site_runner.specs.declared.slot.Slot.{Slot}
+use Rattle.site_runner.specs.declared.slot.Slot.TheVariants.{Free}
 
 -- a disk without a site
 abbrev pub free_slot : {D : Type 0} → D → Slot D
-free_slot d = record { disk = d; site = None }
-
-abbrev pub disk_of : {D : Type 0} → Slot D → D
-disk_of slot = slot.disk
+free_slot d = Free d

@@ -22,9 +22,7 @@ use Rattle.world_defs.specs.rows.Rollback.{rollback}
 use Rattle.world_defs.specs.rows.Start.{start}
 use Rattle.site_runner.specs.declared.refusing.Needing.{Needing}
 use Rattle.site_runner.specs.declared.refusing.Needing.TheVariants.{Rollback, Opening}
-use Rattle.site_runner.specs.declared.slot.Site.{Site}
-use Rattle.site_runner.specs.declared.slot.State.TheVariants.{Down}
-use Rattle.site_runner.specs.Sites.{site_value, IsMade}
+use Rattle.site_runner.specs.Sites.{Down, Site, site_value, IsMade}
 use Rattle.site_runner.specs.Executes.{Comes}
 use Rattle.site_runner.specs.Steps.{IsAt}
 

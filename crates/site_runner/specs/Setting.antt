@@ -6,7 +6,7 @@ use Rattle.world_defs.specs.World.{Place}
 use Rattle.world_defs.specs.Step.{LeftByRow}
 use Rattle.world_defs.specs.Ties.{Matches}
 use Rattle.world_defs.specs.rows.SetJournal.{set_journal}
-use Rattle.site_runner.specs.declared.slot.Site.{Site}
+use Rattle.site_runner.specs.Sites.{Site}
 use Rattle.site_runner.specs.Executes.{Comes}
 use Rattle.site_runner.specs.Mapping.{IsSeenAt}
 use Rattle.site_runner.specs.Steps.{IsAt}

@@ -1,20 +1,65 @@
 -- What sites stand for.
-use Rattle.std.specs.Prelude.{◌≡◌, ℕ, Bool, true, false, List, [], ◌∷◌, Option, None, Some, IsTrue, option_map}
+use Rattle.std.specs.Prelude.{◌≡◌, ℕ, Bool, true, false, List, [], ◌∷◌, length, Option, None, Some, IsTrue, option_map}
 use Rattle.std.specs.List.{AllByRecursion}
 use Rattle.disk_defs.specs.Disk.{View}
 use Rattle.journal_defs.specs.Instance.{site_name}
-use Rattle.site_store.specs.Site.{IsReady, HasReign}
-use Rattle.repl_section.specs.declared.reign.Reign.{Reign}
-use Rattle.repl_section.specs.Reigns.{Reigns, stamp_of}
+use Rattle.global_defs.specs.Entry as defs
+use Rattle.site_store.specs.declared.memory.Memory.{Memory}
+use Rattle.site_store.specs.Site as store
+use Rattle.site_store.specs.Site.{HasReign}
+use Rattle.site_store.specs.Owning.{disk_of, memory_of, IsGoing}
+use Rattle.repl_section.specs.declared.reign.Reign as code
+use Rattle.repl_section.specs.Reigns.{stamp_in}
 use Rattle.site_defs.specs.Lists.{Among}
 use Rattle.world_defs.specs.World as world
 use Rattle.command_defs.specs.Commands.{Name}
-use Rattle.world_defs.specs.World.{Place, Settled, is_site_named}
+use Rattle.world_defs.specs.World.{Place, Settled, is_site_named, is_free}
 use Rattle.site_defs.specs.Contents.{Contents, NO_LEFTOVER, is_made, bare}
-use Rattle.site_runner.specs.declared.slot.State.{State}
-use Rattle.site_runner.specs.declared.slot.State.TheVariants.{Down, Primary, Failed}
-use Rattle.site_runner.specs.declared.slot.Site.{Site}
 use Rattle.site_runner.specs.declared.slot.Slot.{Slot}
+use Rattle.site_runner.specs.declared.slot.Slot.TheVariants as slots
+
+-- what an open site has in memory, and the next serials of its updaters
+pub record Reign : Type 0 where
+  pub site : Memory
+  pub serials : List ℕ
+
+pub data State : Type 0 where
+  Down : State
+  Primary : Reign → State
+  -- a call of its disk failed, the one of that number on it
+  Failed : (fault : ℕ) → State
+
+pub record Site : Type 0 where
+  pub name : Name
+  pub state : State
+
+abbrev pub reign_in : {D : Type 0} → code.Reign D → Reign
+reign_in r = record { site = memory_of r.site; serials = r.serials }
+
+-- the disk of a slot
+abbrev pub disk_in : {D : Type 0} → Slot D → D
+disk_in (slots.Free disk) = disk
+disk_in (slots.Down disk name) = disk
+disk_in (slots.Open r name) = disk_of r.value.site
+disk_in (slots.Failed disk name fault) = disk
+
+-- the site on it
+abbrev pub site_in : {D : Type 0} → Slot D → Option Site
+site_in (slots.Free disk) = None
+site_in (slots.Down disk name) = Some (record { name = name; state = Down })
+site_in (slots.Open r name) = Some (record { name = name; state = Primary (reign_in r.value) })
+site_in (slots.Failed disk name fault) = Some (record { name = name; state = Failed fault })
+
+-- and its name
+abbrev pub name_of : {D : Type 0} → Slot D → Option Name
+name_of slot = option_map (λ (s : Site). s.name) (site_in slot)
+
+abbrev pub stamp_of : Reign → defs.Stamp
+stamp_of r = stamp_in r.site.stamp
+
+-- The reign's site is open with these contents, all entries for good.
+abbrev pub Reigns : View → Bool → Contents → Reign → Type 0
+Reigns v told c r = store.IsOpen v told c (length c.sequence) r.site
 
 abbrev pub state_value : State → world.State
 state_value Down = world.Down
@@ -35,7 +80,10 @@ abbrev pub site_value : Site → world.Site
 site_value s = record { name = s.name; state = state_value s.state }
 
 abbrev pub is_slot_named : {D : Type 0} → Name → Slot D → Bool
-is_slot_named name slot = is_site_named name (option_map site_value slot.site)
+is_slot_named name slot = is_site_named name (option_map site_value (site_in slot))
+
+abbrev pub is_slot_free : {D : Type 0} → Slot D → Bool
+is_slot_free slot = is_free (option_map site_value (site_in slot))
 
 -- a site of that name was made there
 pub record IsOf (called : Name) (c : Contents) : Type 0 where
@@ -47,22 +95,19 @@ pub record IsMade (name : Name) (p : Place) : Type 0 where
   pub now : IsOf name p.now
   pub outcomes : (o : Contents) → Among p.outcomes o → IsOf name o
 
--- an open site's files are ready for calls, and its reign has begun
-pub record IsReadyReign (v : View) (r : Reign) : Type 0 where
-  pub files : IsReady v r.site
-  pub reign : HasReign r.site
+-- an open site is ready for calls, and its reign has begun
+pub record IsReadyOpen {D : Type 0} (view : D → View) (r : code.Reign D) : Type 0 where
+  pub going : IsGoing view r.site
+  pub reign : HasReign (memory_of r.site)
 
-abbrev pub IsReadyState : View → State → Type 0
-IsReadyState v Down = Unit {0}
-IsReadyState v (Primary r) = IsReadyReign v r
-IsReadyState v (Failed fault) = Unit {0}
-
-abbrev pub IsReadyOn : View → Option Site → Type 0
-IsReadyOn v None = Unit {0}
-IsReadyOn v (Some s) = IsReadyState v s.state
+abbrev pub IsReadySlot : {D : Type 0} → (D → View) → Slot D → Type 0
+IsReadySlot view (slots.Free disk) = Unit {0}
+IsReadySlot view (slots.Down disk name) = Unit {0}
+IsReadySlot view (slots.Open r name) = IsReadyOpen view r.value
+IsReadySlot view (slots.Failed disk name fault) = Unit {0}
 
 abbrev pub AreReady : {D : Type 0} → (D → View) → List (Slot D) → Type 0
-AreReady view slots = AllByRecursion (λ slot. IsReadyOn (view slot.disk) slot.site) slots
+AreReady view slots = AllByRecursion (IsReadySlot view) slots
 
 -- An open site has in memory the records and the nodes of its place and places of as many entries and, where files are known, these entries on the disk for good.
 pub record IsOpen (v : View) (r : Reign) (p : Place) : Type 0 where

@@ -1,27 +1,37 @@
 -- What beginning a reign means at the place of a site that was opened for it.
-use Rattle.std.specs.Prelude.{◌≡◌, ◌≤◌, ◌<◌, ℕ, Bool, true, List, length, Some, None, IsTrue, IfSome}
-use Rattle.disk_defs.specs.Disk.{View}
-use Rattle.journal_defs.specs.Instance.{generation, site_name}
-use Rattle.site_store.specs.declared.site.OpenSite.{OpenSite}
+use Rattle.std.specs.Prelude.{◌≡◌, ◌≤◌, ◌<◌, ℕ, true, List, length, Some, None, Result, IsTrue, IsSome, IfSome}
+use Rattle.command_defs.specs.Commands.{Name}
+use Rattle.disk_defs.specs.Disk.{View, AtEachMoment, MayFail}
+use Rattle.journal_defs.specs.Instance.{InstanceRecord, generation, site_name}
+use Rattle.journal_defs.specs.Numbers.{INSTANCE}
+use Rattle.journal_defs.specs.Stands.{IsInstance}
+use Rattle.site_store.specs.declared.error.SiteError.{SiteError}
+use Rattle.site_store.specs.declared.error.SiteError.TheVariants as errors
+use Rattle.site_store.specs.Needing.{HaveFirstWithout}
+use Rattle.site_store.specs.Opening.{MayBeOpen, MayBeOpenWith}
+use Rattle.site_store.specs.Refusing.{IsUnwritten}
+use Rattle.site_defs.specs.OutsideBlocks.{IsOutsideOpening}
+use Rattle.site_defs.specs.Stands.{IsSite, HasLeft}
+use Rattle.site_store.specs.declared.memory.Memory.{Memory}
 use Rattle.site_store.specs.Site.{IsOpen, WasOpenedFrom}
 use Rattle.site_defs.specs.Lists.{Among}
 use Rattle.world_defs.specs.World.{Place, IfShown}
 use Rattle.world_defs.specs.Shown.{BySequence}
 use Rattle.world_defs.specs.Without.{NoneIsWithout}
-use Rattle.site_defs.specs.Contents.{Contents}
+use Rattle.site_defs.specs.Contents.{Contents, Leftover}
+use Rattle.world_defs.specs.Meaning.{row_at}
 use Rattle.world_defs.specs.rows.Start.{generation_limit, need_forward, start}
 use Rattle.site_defs.specs.Limits.{LAST_GENERATION}
 use Rattle.site_defs.specs.Opening.{opened}
-use Rattle.world_defs.specs.Step.{LeftByRow}
-use Rattle.world_defs.specs.Ties.{Matches}
-use Rattle.site_runner.specs.declared.slot.Site.{Site}
-use Rattle.site_runner.specs.declared.slot.State.TheVariants.{Down}
-use Rattle.site_runner.specs.Sites.{site_value, IsMade}
-use Rattle.site_runner.specs.Executes.{Comes}
-use Rattle.site_runner.specs.Steps.{IsAt}
+use Rattle.site_runner.specs.Sites.{Down, Site, site_value, IsMade}
+use Rattle.gvn_key.specs.declared.bytes.NoMemory.{NoMemory}
+use Rattle.site_runner.specs.declared.slot.Slot.{Slot}
+use Rattle.site_runner.specs.declared.slot.Slot.TheVariants as slots
+use Rattle.site_runner.specs.declared.ending.Ended.{Ended}
+use Rattle.site_runner.specs.Executes.{Becomes, Leaves}
 
 -- A site that is down was opened: its place as it was before, and what was read there.
-pub record IsOpenedAt (v : View) (s : Site) (o : OpenSite) (p : Place) : Type 0 where
+pub record IsOpenedAt (v : View) (s : Site) (o : Memory) (p : Place) : Type 0 where
   pub site : p.site ≡ Some (site_value s)
   pub down : s.state ≡ Down
   pub made : IsTrue p.told → IsMade s.name p
@@ -43,11 +53,27 @@ pub record IsOpenedAt (v : View) (s : Site) (o : OpenSite) (p : Place) : Type 0 
   pub faults : p.faults ≤ v.faults
   pub simulated : v.simulated ≡ p.simulated
 
--- Whatever place the site was opened at, START with some answer leads from there to one at which it stands, and this is its text.
-abbrev pub BeginsAt : View → OpenSite → Site → View → Site → List ℕ → List ℕ → Bool → Type 0
-BeginsAt v o old w new before now done = (p : Place) → IsOpenedAt v old o p
-    → Comes (start old.name p) (IsAt w new) before now done
+-- Whatever place the site was opened at, START led from there to such a slot and ended so.
+abbrev pub BeginsAt : {D : Type 0} → (D → View) → View → Memory → Site → Slot D × Result Ended NoMemory → List ℕ → List ℕ → Type 0
+BeginsAt view v o s left before now = (p : Place) → IsOpenedAt v s o p → Becomes view (start s.name p) p left.0 left.1 before now
 
--- It was cut off for want of memory.
-abbrev pub IsCutOpened : View → OpenSite → Site → View → Type 0
-IsCutOpened v o old w = (p : Place) → IsOpenedAt v old o p → (q : Place) × LeftByRow (start old.name p) p q × Matches w q
+-- An opening failed with this error, and left the disk so.
+pub record FailsToOpen (v : View) (error : SiteError) (w : View) : Type 0 where
+  pub limit : error ≡ errors.GenLimit → IfSome v.content (λ files. (rs : List InstanceRecord) → IsInstance (files INSTANCE) rs → LAST_GENERATION ≤ generation rs)
+  pub limit_told : error ≡ errors.GenLimit → IfSome v.content (λ files. (rs : List InstanceRecord) × IsInstance (files INSTANCE) rs × (LAST_GENERATION ≤ generation rs))
+  pub unwritten : error ≡ errors.GenLimit → IsUnwritten v w
+  pub needs : (region : ℕ) → error ≡ errors.NeedForward region → IfSome v.content (λ files. HaveFirstWithout files region)
+  pub needs_unwritten : (region : ℕ) → error ≡ errors.NeedForward region → IsUnwritten v w
+  pub place : (file offset : ℕ) → error ≡ errors.NotAFile file offset → IfSome v.content (λ files. IsOutsideOpening files file offset)
+  pub outside : (file offset : ℕ) → error ≡ errors.NotAFile file offset → IfSome v.content (λ files. (c : Contents) → IsSite files c → ⊥)
+  pub refused : (file offset : ℕ) → error ≡ errors.NotAFile file offset → IfSome v.content (λ _. IsUnwritten v w)
+  -- whatever the error is
+  pub any_moment : IfSome v.content (λ files. (c : Contents) (left : Leftover) → IsSite files c → HasLeft files c left → AtEachMoment v w (MayBeOpen v left.broken))
+  pub left : IfSome v.content (λ files. (c : Contents) → IsSite files c → AtEachMoment v w (MayBeOpenWith v))
+  pub still_told : IsSome v.content → IsSome w.content
+  pub simulated : w.simulated ≡ v.simulated
+  pub faults : MayFail v.faults w.faults (λ fault. error ≡ errors.Failed fault)
+
+-- Whatever disk it was whose opening failed with that error and left this one, START led from its site to such a slot and ended so.
+abbrev pub LeavesUnopened : {D : Type 0} → (D → View) → D → SiteError → Name → Slot D × Result Ended NoMemory → List ℕ → List ℕ → Type 0
+LeavesUnopened {D} view disk error name left before now = (was : D) → FailsToOpen (view was) error (view disk) → Leaves view (row_at start) (slots.Down was name) left before now

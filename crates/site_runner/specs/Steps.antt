@@ -4,17 +4,13 @@ use Rattle.std.specs.Fmt.{decimal}
 use Rattle.std.specs.List.{flat_map}
 use Rattle.disk_defs.specs.Disk.{View}
 use Rattle.journal_defs.specs.Surviving.{reigns}
-use Rattle.repl_section.specs.Reigns.{stamp_of}
 use Rattle.world_defs.specs.World.{Place}
 use Rattle.world_defs.specs.Answers.{line}
 use Rattle.world_defs.specs.Row.{Row}
 use Rattle.world_defs.specs.Step.{LeftByRow}
 use Rattle.world_defs.specs.rows.Show.{reign_text}
 use Rattle.world_defs.specs.Ties.{Matches}
-use Rattle.site_runner.specs.declared.slot.State.{State}
-use Rattle.site_runner.specs.declared.slot.State.TheVariants.{Down, Primary, Failed}
-use Rattle.site_runner.specs.declared.slot.Site.{Site}
-use Rattle.site_runner.specs.Sites.{site_value, IsHeld}
+use Rattle.site_runner.specs.Sites.{stamp_of, State, Down, Primary, Failed, Site, site_value, IsHeld}
 use Rattle.site_runner.specs.Executes.{Comes}
 use Rattle.site_store.specs.Site.{count_of}
 

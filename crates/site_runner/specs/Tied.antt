@@ -5,17 +5,17 @@ use Rattle.site_defs.specs.Lists.{Along}
 use Rattle.world_defs.specs.World.{Place, World}
 use Rattle.world_defs.specs.Ties.{Matches}
 use Rattle.site_runner.specs.declared.slot.Slot.{Slot}
-use Rattle.site_runner.specs.Sites.{site_value, HoldsSite}
+use Rattle.site_runner.specs.Sites.{disk_in, site_in, site_value, HoldsSite}
 
 pub record IsPlace {D : Type 0} (view : D → View) (slot : Slot D) (p : Place) : Type 0 where
-  pub disk : Matches (view slot.disk) p
-  pub site : p.site ≡ option_map site_value slot.site
+  pub disk : Matches (view (disk_in slot)) p
+  pub site : p.site ≡ option_map site_value (site_in slot)
   -- what an open site has read, and what its journal holds
-  pub held : HoldsSite (view slot.disk) slot.site p
+  pub held : HoldsSite (view (disk_in slot)) (site_in slot) p
 
 abbrev pub Tied : {D : Type 0} → (D → View) → List (Slot D) → World → Type 0
 Tied view slots w = Along (λ i slot p. IsPlace view slot p) slots w.places
 
 -- the disks alone
 abbrev pub Matched : {D : Type 0} → (D → View) → List (Slot D) → World → Type 0
-Matched view slots w = Along (λ i slot p. Matches (view slot.disk) p) slots w.places
+Matched view slots w = Along (λ i slot p. Matches (view (disk_in slot)) p) slots w.places

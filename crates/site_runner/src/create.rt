@@ -7,20 +7,21 @@ ghost use Rattle.command_defs.specs.Commands as commands;
 ghost use Rattle.command_defs.specs.Commands.{IsFormed};
 ghost use Rattle.repl_script.specs.Commands.{region_value};
 ghost use Rattle.world_defs.specs.rows.Create as rows;
-ghost use Rattle.site_runner.specs.Executes.{ExecutesHere, IsCutHere, Executes, IsCutOff};
-ghost use Rattle.site_runner.specs.Creating.{spec_of, MakesHere, MakingIsCut};
-ghost use Rattle.site_runner.specs.Sites.{is_slot_named, IsReadyOn, AreReady};
+ghost use Rattle.site_runner.specs.Executes.{Leaves, Executes, IsCutOff};
+ghost use Rattle.site_runner.specs.Creating.{spec_of, region_of, MakesHere};
+ghost use Rattle.site_runner.specs.Sites.{is_slot_named, IsReadySlot, AreReady};
 
 use super::answering::refuse;
 use super::cause::Cause;
-use super::finding::{find, find_free};
+use super::ending::Ended;
+use super::finding::{find, put_back, take_free};
 use super::looking::{look, write_failure};
-use super::slot::{Site, Slot, State};
+use super::slot::Slot;
 use super::text::write_line;
 use gvn_key::{Bytes, NoMemory};
 use gvn_model::NamedModes;
 use repl_disk::Disk;
-use site_store::RegionSpec;
+use site_store::{RegionSpec, Site};
 use std::alloc::Global;
 use world_laws::leftovers::leftovers_hold;
 
@@ -38,54 +39,57 @@ fn region_specs(alloc: Global, regions: &NamedModes) -> Result<Vec<RegionSpec>, 
     Ok(specs)
 }
 
-/// Makes a site on a disk on which none was made. Answers whether that was done.
+/// Makes a site on a disk on which none was made.
 fn make<D: Disk>(
     alloc: Global,
-    slot: &mut Slot<D>,
+    mut disk: D,
     name: Bytes,
-    regions: &NamedModes,
+    regions: &[RegionSpec],
     text: &mut Bytes,
-) -> Result<bool, NoMemory>
-    requires formed { IsFormed (commands.Create name (map region_value regions.now)) }
-    requires free { slot.old.site ≡ None }
-    requires empty { IfSome (D.disk slot.old.disk).content (λ files. records (files INSTANCE) ≡ Some []) }
-    ensures done { IfOk result (λ done. MakesHere D.disk name (map region_value regions.now) slot.old slot.new text.old text.new done) }
-    ensures cut_off { OnErr result (MakingIsCut D.disk name (map region_value regions.now) slot.old slot.new) }
-    ensures ready { IsReadyOn (D.disk slot.new.disk) slot.new.site }
+) -> (Slot<D>, Result<Ended, NoMemory>)
+    requires formed { IsFormed (commands.Create name (map region_of regions.now)) }
+    requires empty { IfSome (D.disk disk).content (λ files. records (files INSTANCE) ≡ Some []) }
+    ensures ready { OnOk result.1 (IsReadySlot D.disk result.0) }
+    ensures left { MakesHere D.disk name (map region_of regions.now) (Slot.Free disk) result text.old text.new }
 {
     leftovers_hold();
-    let specs = region_specs(alloc, regions)?;
-    match site_store::create(alloc, &mut slot.disk, &name, &specs) {
-        Err(error) => write_failure(text, name.as_slice(), error),
+    match Site::create(alloc, &mut disk, &name, regions) {
+        Err(error) => {
+            let ended = write_failure(text, name.as_slice(), error);
+            (Slot::Free(disk), ended)
+        }
         Ok(()) => {
-            write_line(text, name.as_slice(), b"CREATED")?;
-            slot.site = Some(Site {
-                name,
-                state: State::Down,
-            });
-            Ok(true)
+            let written = write_line(text, name.as_slice(), b"CREATED");
+            (Slot::Down { disk, name }, Ended::Done.after(written))
         }
     }
 }
 
-/// Makes a site on a disk that no site of the run has, unless one was made there. Answers whether that was done.
+/// Makes a site on a disk that no site of the run has, unless one was made there.
 fn create_at<D: Disk>(
     alloc: Global,
-    slot: &mut Slot<D>,
+    mut disk: D,
     name: Bytes,
     regions: &NamedModes,
     text: &mut Bytes,
-) -> Result<bool, NoMemory>
-    requires formed { IsFormed (commands.Create name (map region_value regions.now)) }
-    requires free { slot.old.site ≡ None }
-    ensures done { IfOk result (λ done. ExecutesHere D.disk (rows.create (map region_value regions.now) name) slot.old slot.new text.old text.new done) }
-    ensures cut_off { OnErr result (IsCutHere D.disk (rows.create (map region_value regions.now) name) slot.old slot.new) }
-    ensures ready { IsReadyOn (D.disk slot.new.disk) slot.new.site }
+) -> (Slot<D>, Result<Ended, NoMemory>)
+    requires { IsFormed (commands.Create name (map region_value regions.now)) }
+    ensures ready { OnOk result.1 (IsReadySlot D.disk result.0) }
+    ensures left { Leaves D.disk (rows.create (map region_value regions.now) name) (Slot.Free disk) result text.old text.new }
 {
-    match look(alloc, slot) {
-        Err(error) => write_failure(text, name.as_slice(), error),
-        Ok(Some(_)) => refuse(text, name.as_slice(), &Cause::NotEmpty),
-        Ok(None) => make(alloc, slot, name, regions, text),
+    match look(alloc, &mut disk) {
+        Err(error) => {
+            let ended = write_failure(text, name.as_slice(), error);
+            (Slot::Free(disk), ended)
+        }
+        Ok(Some(_)) => {
+            let ended = refuse(text, name.as_slice(), &Cause::NotEmpty);
+            (Slot::Free(disk), ended)
+        }
+        Ok(None) => match region_specs(alloc, regions) {
+            Ok(specs) => make(alloc, disk, name, &specs, text),
+            Err(NoMemory) => (Slot::Free(disk), Err(NoMemory)),
+        },
     }
 }
 
@@ -96,18 +100,22 @@ fn create_new<D: Disk>(
     name: Bytes,
     regions: &NamedModes,
     text: &mut Bytes,
-) -> Result<bool, NoMemory>
+) -> Result<Ended, NoMemory>
     requires formed { IsFormed (commands.Create name (map region_value regions.now)) }
     requires none { first_where (is_slot_named name) slots.old.items ≡ None }
     requires ready { AreReady D.disk slots.old.items }
-    ensures ready { AreReady D.disk slots.new.items }
+    ensures ready { OnOk result (AreReady D.disk slots.new.items) }
     ensures done { OnOk result (Executes D.disk (commands.Create name (map region_value regions.now)) slots.old.items slots.new.items text.old text.new) }
     ensures cut_off { OnErr result (IsCutOff D.disk (commands.Create name (map region_value regions.now)) slots.old.items slots.new.items) }
     ensures length { length slots.new.items ≡ length slots.old.items }
 {
-    match find_free(slots) {
+    match take_free(slots) {
         None => refuse(text, name.as_slice(), &Cause::NoDisk),
-        Some(i) => create_at(alloc, &mut slots[i], name, regions, text),
+        Some((i, disk)) => {
+            let (slot, ended) = create_at(alloc, disk, name, regions, text);
+            put_back(slots, i, slot);
+            ended
+        }
     }
 }
 
@@ -118,10 +126,10 @@ pub fn create<D: Disk>(
     name: Bytes,
     regions: NamedModes,
     text: &mut Bytes,
-) -> Result<bool, NoMemory>
+) -> Result<Ended, NoMemory>
     requires formed { IsFormed (commands.Create name (map region_value regions)) }
     requires ready { AreReady D.disk slots.old.items }
-    ensures ready { AreReady D.disk slots.new.items }
+    ensures ready { OnOk result (AreReady D.disk slots.new.items) }
     ensures done { OnOk result (Executes D.disk (commands.Create name (map region_value regions)) slots.old.items slots.new.items text.old text.new) }
     ensures cut_off { OnErr result (IsCutOff D.disk (commands.Create name (map region_value regions)) slots.old.items slots.new.items) }
     ensures length { length slots.new.items ≡ length slots.old.items }

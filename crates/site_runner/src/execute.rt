@@ -1,34 +1,35 @@
 // One command.
-ghost use Rattle.std.specs.Prelude.{◌≡◌, length, IfOk, OnOk, OnErr, Some, None, true};
+ghost use Rattle.std.specs.Prelude.{◌≡◌, length, OnOk, OnErr, true};
 ghost use Rattle.command_defs.specs.Commands.{IsFormed, IsWhole};
 ghost use Rattle.repl_script.specs.Commands.{command_value};
-ghost use Rattle.site_runner.specs.Executes.{ExecutesHere, IsCutHere, Executes, IsCutOff};
-ghost use Rattle.site_runner.specs.Named.{IsNamed, name_in, row_on, row_in};
-ghost use Rattle.site_runner.specs.Steps.{ExecutesAt, IsCutAt};
-ghost use Rattle.site_runner.specs.Sites.{is_slot_named, IsReadyState, IsReadyOn, AreReady};
+ghost use Rattle.site_runner.specs.Executes.{Leaves, Executes, IsCutOff};
+ghost use Rattle.site_runner.specs.Named.{IsNamed, name_in, row_in};
+ghost use Rattle.site_runner.specs.Sites.{is_slot_named, IsReadyOpen, IsReadySlot, AreReady};
 
 use super::answering::refuse;
 use super::attach::attach;
 use super::cause::Cause;
 use super::create::create;
+use super::ending::Ended;
 use super::epoch::epoch;
 use super::extracting::extract;
-use super::finding::find;
-use super::fusing::{crash, fuse};
+use super::finding::{find, put_back};
+use super::fusing::{crash_failed, crash_open, fuse_down, fuse_open};
 use super::mapping::map;
-use super::printing::print;
+use super::printing::{print_down, print_open};
 use super::recovering::recover;
 use super::rolling::rollback;
 use super::section::run_section;
 use super::setting::set_journal;
-use super::showing::show;
-use super::slot::{Site, Slot};
+use super::showing::{show_down, show_failed, show_open};
+use super::slot::Slot;
 use super::start::start;
 use super::stop::stop;
 use super::zwriting::zwrite;
 use gvn_key::{Bytes, NoMemory};
 use repl_disk::Disk;
 use repl_script::Command;
+use repl_section::Reign;
 use std::alloc::Global;
 
 /// The site that a command names.
@@ -57,22 +58,18 @@ fn name_of(command: &Command) -> &Bytes
     }
 }
 
-/// Executes a command on the site that it names. Answers whether it was done.
-#[tactic(auto, using(crate::proofs::Stopped::cut_nowhere, crate::proofs::Stopped::cut_unless))]
-fn execute_on<D: Disk>(
+/// Executes a command on the site that it names, which is down.
+fn on_down<D: Disk>(
     alloc: Global,
-    disk: &mut D,
-    site: &mut Site,
+    disk: D,
+    name: Bytes,
     command: Command,
     text: &mut Bytes,
-) -> Result<bool, NoMemory>
+) -> (Slot<D>, Result<Ended, NoMemory>)
     requires formed { IsFormed (command_value command) }
-    requires whole { IsWhole (command_value command) }
     requires command { IsNamed (command_value command) }
-    requires ready { IsReadyState (D.disk disk.old) site.old.state }
-    ensures ready { OnOk result (IsReadyState (D.disk disk.new) site.new.state) }
-    ensures done { IfOk result (λ done. ExecutesAt (row_on (command_value command) site.old.name) (D.disk disk.old) site.old (D.disk disk.new) site.new text.old text.new done) }
-    ensures cut_off { OnErr result (IsCutAt (row_on (command_value command) site.old.name) (D.disk disk.old) site.old (D.disk disk.new)) }
+    ensures ready { OnOk result.1 (IsReadySlot D.disk result.0) }
+    ensures left { Leaves D.disk (row_in (command_value command)) (Slot.Down disk name) result text.old text.new }
 {
     match command {
         Command::Create { .. } | Command::Attach => unreachable!(),
@@ -80,52 +77,140 @@ fn execute_on<D: Disk>(
             region,
             pattern,
             ..
-        } => map(alloc, disk, site, region, pattern.as_slice(), text),
+        } => map(alloc, disk, name, region, pattern.as_slice(), text),
         Command::SetJournal { region, before, .. } => set_journal(
-            alloc, disk, site, region, before, text,
+            alloc, disk, name, region, before, text,
         ),
-        Command::StartPrimary { .. } => start(alloc, disk, site, text),
-        Command::Run { jobs, order, .. } => {
-            run_section(alloc, disk, site, jobs, order.as_slice(), text)
-        }
-        Command::Stop { .. } => stop(alloc, disk, site, text),
-        Command::Epoch { .. } => epoch(alloc, disk, site, text),
-        Command::Fuse { calls, .. } => fuse(disk, site, calls, text),
-        Command::Crash { pick, .. } => crash(disk, site, pick, text),
-        Command::Extract { number, .. } => extract(disk, site, number, text),
-        Command::Zwrite { top, .. } => zwrite(disk, site, top.as_ref(), text),
-        Command::Show { .. } => show(disk, site, text),
+        Command::StartPrimary { .. } => start(alloc, disk, name, text),
+        Command::Resync { number, .. } => rollback(alloc, disk, name, number, text),
+        Command::RecoverBackward { .. } => recover(alloc, disk, name, false, text),
+        Command::RecoverForward { .. } => recover(alloc, disk, name, true, text),
+        Command::Fuse { calls, .. } => fuse_down(disk, name, calls, text),
+        Command::Show { .. } => show_down(disk, name, text),
         Command::Print {
             lost,
             generation,
             ..
-        } => print(disk, site, lost, generation, text),
-        Command::Resync { number, .. } => rollback(alloc, disk, site, number, text),
-        Command::RecoverBackward { .. } => recover(alloc, disk, site, false, text),
-        Command::RecoverForward { .. } => recover(alloc, disk, site, true, text),
+        } => print_down(disk, name, lost, generation, text),
+        Command::Run { .. } => {
+            let ended = refuse(text, name.as_slice(), &Cause::NotPrimary);
+            (Slot::Down { disk, name }, ended)
+        }
+        Command::Stop { .. }
+        | Command::Epoch { .. }
+        | Command::Crash { .. }
+        | Command::Extract { .. }
+        | Command::Zwrite { .. } => {
+            let ended = refuse(text, name.as_slice(), &Cause::NotRunning);
+            (Slot::Down { disk, name }, ended)
+        }
     }
 }
 
-/// Executes a command on the site that it names, which stands there. Answers whether it was done.
-fn execute_at<D: Disk>(
+/// Executes a command on the site that it names, which is open.
+fn on_open<D: Disk>(
     alloc: Global,
-    slot: &mut Slot<D>,
+    reign: Box<Reign<D>>,
+    name: Bytes,
     command: Command,
     text: &mut Bytes,
-) -> Result<bool, NoMemory>
+) -> (Slot<D>, Result<Ended, NoMemory>)
     requires formed { IsFormed (command_value command) }
     requires whole { IsWhole (command_value command) }
     requires command { IsNamed (command_value command) }
-    requires site { is_slot_named (name_in (command_value command)) slot.old ≡ true }
-    requires ready { IsReadyOn (D.disk slot.old.disk) slot.old.site }
-    ensures ready { OnOk result (IsReadyOn (D.disk slot.new.disk) slot.new.site) }
-    ensures done { IfOk result (λ done. ExecutesHere D.disk (row_in (command_value command)) slot.old slot.new text.old text.new done) }
-    ensures cut_off { OnErr result (IsCutHere D.disk (row_in (command_value command)) slot.old slot.new) }
+    requires ready { IsReadyOpen D.disk reign.value }
+    ensures ready { OnOk result.1 (IsReadySlot D.disk result.0) }
+    ensures left { Leaves D.disk (row_in (command_value command)) (Slot.Open reign name) result text.old text.new }
 {
-    let Some(site) = &mut slot.site else {
-        unreachable!();
-    };
-    execute_on(alloc, &mut slot.disk, site, command, text)
+    match command {
+        Command::Create { .. } | Command::Attach => unreachable!(),
+        Command::Run { jobs, order, .. } => {
+            run_section(alloc, reign, name, jobs, order.as_slice(), text)
+        }
+        Command::Stop { .. } => stop(reign, name, text),
+        Command::Epoch { .. } => epoch(reign, name, text),
+        Command::Fuse { calls, .. } => fuse_open(reign, name, calls, text),
+        Command::Crash { pick, .. } => crash_open(reign, name, pick, text),
+        Command::Extract { number, .. } => extract(reign, name, number, text),
+        Command::Zwrite { top, .. } => zwrite(reign, name, top.as_ref(), text),
+        Command::Show { .. } => show_open(reign, name, text),
+        Command::Print {
+            lost,
+            generation,
+            ..
+        } => print_open(reign, name, lost, generation, text),
+        Command::Map { .. }
+        | Command::SetJournal { .. }
+        | Command::StartPrimary { .. }
+        | Command::Resync { .. }
+        | Command::RecoverBackward { .. }
+        | Command::RecoverForward { .. } => {
+            let ended = refuse(text, name.as_slice(), &Cause::Running);
+            (Slot::Open { reign, name }, ended)
+        }
+    }
+}
+
+/// Executes a command on the site that it names, which has failed.
+fn on_failed<D: Disk>(
+    disk: D,
+    name: Bytes,
+    fault: u64,
+    command: Command,
+    text: &mut Bytes,
+) -> (Slot<D>, Result<Ended, NoMemory>)
+    requires { IsNamed (command_value command) }
+    ensures ready { OnOk result.1 (IsReadySlot D.disk result.0) }
+    ensures left { Leaves D.disk (row_in (command_value command)) (Slot.Failed disk name fault) result text.old text.new }
+{
+    match command {
+        Command::Create { .. } | Command::Attach => unreachable!(),
+        Command::Crash { pick, .. } => crash_failed(disk, name, fault, pick, text),
+        Command::Show { .. } => show_failed(disk, name, fault, text),
+        Command::Map { .. }
+        | Command::SetJournal { .. }
+        | Command::StartPrimary { .. }
+        | Command::Run { .. }
+        | Command::Stop { .. }
+        | Command::Epoch { .. }
+        | Command::Resync { .. }
+        | Command::RecoverBackward { .. }
+        | Command::RecoverForward { .. }
+        | Command::Fuse { .. }
+        | Command::Extract { .. }
+        | Command::Zwrite { .. }
+        | Command::Print { .. } => {
+            let ended = refuse(text, name.as_slice(), &Cause::Stopped { fault });
+            (Slot::Failed { disk, name, fault }, ended)
+        }
+    }
+}
+
+/// Executes a command on the site that it names, which stands there.
+fn execute_at<D: Disk>(
+    alloc: Global,
+    slot: Slot<D>,
+    command: Command,
+    text: &mut Bytes,
+) -> (Slot<D>, Result<Ended, NoMemory>)
+    requires formed { IsFormed (command_value command) }
+    requires whole { IsWhole (command_value command) }
+    requires command { IsNamed (command_value command) }
+    requires site { is_slot_named (name_in (command_value command)) slot ≡ true }
+    requires ready { IsReadySlot D.disk slot }
+    ensures ready { OnOk result.1 (IsReadySlot D.disk result.0) }
+    ensures left { Leaves D.disk (row_in (command_value command)) slot result text.old text.new }
+{
+    match slot {
+        Slot::Down { disk, name } => on_down(alloc, disk, name, command, text),
+        Slot::Open { reign, name } => on_open(alloc, reign, name, command, text),
+        Slot::Failed { disk, name, fault } => on_failed(disk, name, fault, command, text),
+        // no site stands there
+        Slot::Free(disk) => {
+            let ended = refuse(text, name_of(&command).as_slice(), &Cause::NoSite);
+            (Slot::Free(disk), ended)
+        }
+    }
 }
 
 /// Executes a command on the site that it names. Answers whether it was done.
@@ -134,7 +219,7 @@ fn execute_named<D: Disk>(
     slots: &mut Vec<Slot<D>>,
     command: Command,
     text: &mut Bytes,
-) -> Result<bool, NoMemory>
+) -> Result<Ended, NoMemory>
     requires formed { IsFormed (command_value command) }
     requires whole { IsWhole (command_value command) }
     requires command { IsNamed (command_value command) }
@@ -147,7 +232,12 @@ fn execute_named<D: Disk>(
     let name = name_of(&command).as_slice();
     match find(slots, name) {
         None => refuse(text, name, &Cause::NoSite),
-        Some(i) => execute_at(alloc, &mut slots[i], command, text),
+        Some(i) => {
+            let slot = slots.remove(i);
+            let (slot, ended) = execute_at(alloc, slot, command, text);
+            put_back(slots, i, slot);
+            ended
+        }
     }
 }
 
@@ -157,7 +247,7 @@ pub fn execute<D: Disk>(
     slots: &mut Vec<Slot<D>>,
     command: Command,
     text: &mut Bytes,
-) -> Result<bool, NoMemory>
+) -> Result<Ended, NoMemory>
     requires formed { IsFormed (command_value command) }
     requires whole { IsWhole (command_value command) }
     requires ready { AreReady D.disk slots.old.items }

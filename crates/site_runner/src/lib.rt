@@ -5,6 +5,7 @@ mod answering;
 mod attach;
 mod cause;
 mod create;
+mod ending;
 mod epoch;
 mod execute;
 mod extracting;

@@ -1,15 +1,23 @@
 // TYPE.
-ghost use Rattle.std.specs.Prelude.{◌≡◌, ◌≤◌, IfOk, OnOk, OnErr};
+ghost use Rattle.std.specs.Prelude.{◌≡◌, ◌≤◌, ◌++◌, ℕ, IfOk, OnOk, OnErr, IsErrOf};
+ghost use Rattle.world_defs.specs.Answers.{fault_line};
+ghost use Rattle.world_defs.specs.Meaning.{row_at};
 ghost use Rattle.world_defs.specs.rows.Print as rows;
 ghost use Rattle.world_defs.specs.rows.Print.{file_typed};
-ghost use Rattle.site_runner.specs.Sites.{IsReadyState};
+ghost use Rattle.site_store.specs.Owning.{disk_of};
+ghost use Rattle.site_runner.specs.declared.ending.Ended.TheVariants.{Undone, Failed};
+ghost use Rattle.site_runner.specs.Ending.{down, down_after, primary, primary_after, is_done_at, StaysReady, ShowsBytes};
+ghost use Rattle.site_runner.specs.Executes.{Leaves};
+ghost use Rattle.site_runner.specs.Sites.{IsReadyOpen, IsReadySlot};
 ghost use Rattle.site_runner.specs.Steps.{ExecutesAt, IsCutAt};
 
 use super::answering::{fail, refuse};
 use super::cause::Cause;
-use super::slot::Site;
+use super::ending::{Ended, closed, opened};
+use super::slot::Slot;
 use gvn_key::{Bytes, NoMemory};
 use repl_disk::Disk;
+use repl_section::Reign;
 use site_store::{SiteError, read_file};
 use world_laws::leftovers::typing_reads_files;
 
@@ -31,36 +39,104 @@ fn typed_file(lost: bool, generation: u32) -> u32
     }
 }
 
-/// Shows the lost-transaction or the broken-transaction file of a generation, as it reads. It counts as not done: no command goes on
-/// behind it.
-pub fn print<D: Disk>(
+/// Adds what became of reading a file: its bytes, that it has none, or the call that failed.
+fn tell_bytes(
+    read: Result<(), SiteError>,
+    bytes: &Bytes,
+    name: &[u8],
+    text: &mut Bytes,
+) -> Result<Ended, NoMemory>
+    ensures read { OnOk read (IfOk result (λ ended. (ended ≡ Undone) × ShowsBytes bytes.now name.now text.old text.new)) }
+    ensures failed { OnErr read (IfOk result (λ ended. (fault : ℕ) × IsErrOf read (SiteError.Failed fault) × (ended ≡ Failed fault) × (text.new ≡ text.old ++ fault_line name.now fault))) }
+{
+    match read {
+        Ok(()) => {
+            if bytes.is_empty() {
+                return refuse(text, name, &Cause::NoFile);
+            }
+            text.push_all(bytes.as_slice())?;
+            Ok(Ended::Undone)
+        }
+        Err(SiteError::Failed { fault }) => fail(text, name, fault),
+        Err(_) => Err(NoMemory),
+    }
+}
+
+/// Shows a file of a site that is down.
+fn print_disk<D: Disk>(
     disk: &mut D,
-    site: &mut Site,
+    name: &[u8],
     lost: bool,
     generation: u32,
     text: &mut Bytes,
-) -> Result<bool, NoMemory>
-    requires ready { IsReadyState (D.disk disk.old) site.old.state }
+) -> Result<Ended, NoMemory>
     requires some { 1 ≤ generation }
     requires most { generation ≤ 65535 }
-    ensures ready { OnOk result (IsReadyState (D.disk disk.new) site.new.state) }
-    ensures done { IfOk result (λ done. ExecutesAt (rows.print lost generation site.old.name) (D.disk disk.old) site.old (D.disk disk.new) site.new text.old text.new done) }
-    ensures cut_off { OnErr result (IsCutAt (rows.print lost generation site.old.name) (D.disk disk.old) site.old (D.disk disk.new)) }
+    ensures done { IfOk result (λ ended. ExecutesAt (rows.print lost generation name.now) (D.disk disk.old) (down name.now) (D.disk disk.new) (down_after name.now ended) text.old text.new (is_done_at ended)) }
+    ensures cut_off { OnErr result (IsCutAt (rows.print lost generation name.now) (D.disk disk.old) (down name.now) (D.disk disk.new)) }
 {
     typing_reads_files();
-    if let Some(cause) = site.state.why_stopped() {
-        return refuse(text, site.name.as_slice(), &cause);
-    }
     let mut bytes = Bytes::new(text.allocator());
-    match read_file(disk, typed_file(lost, generation), &mut bytes) {
-        Ok(()) => {
-            if bytes.is_empty() {
-                return refuse(text, site.name.as_slice(), &Cause::NoFile);
-            }
-            text.push_all(bytes.as_slice())?;
-            Ok(false)
-        }
-        Err(SiteError::Failed { fault }) => fail(site, fault, text),
-        Err(_) => Err(NoMemory),
-    }
+    let read = read_file(disk, typed_file(lost, generation), &mut bytes);
+    tell_bytes(read, &bytes, name, text)
+}
+
+/// Shows the lost-transaction or the broken-transaction file of a generation of a site that is down, as it reads. It counts as not
+/// done: no command goes on behind it.
+pub fn print_down<D: Disk>(
+    mut disk: D,
+    name: Bytes,
+    lost: bool,
+    generation: u32,
+    text: &mut Bytes,
+) -> (Slot<D>, Result<Ended, NoMemory>)
+    requires some { 1 ≤ generation }
+    requires most { generation ≤ 65535 }
+    ensures ready { OnOk result.1 (IsReadySlot D.disk result.0) }
+    ensures left { Leaves D.disk (row_at (rows.print lost generation)) (Slot.Down disk name) result text.old text.new }
+{
+    let ended = print_disk(&mut disk, name.as_slice(), lost, generation, text);
+    closed(disk, name, ended)
+}
+
+/// Shows a file of an open site.
+fn print_site<D: Disk>(
+    reign: &mut Reign<D>,
+    name: &[u8],
+    lost: bool,
+    generation: u32,
+    text: &mut Bytes,
+) -> Result<Ended, NoMemory>
+    requires ready { IsReadyOpen D.disk reign.old }
+    requires some { 1 ≤ generation }
+    requires most { generation ≤ 65535 }
+    ensures ready { IfOk result (StaysReady D.disk reign.new) }
+    ensures done { IfOk result (λ ended. ExecutesAt (rows.print lost generation name.now) (D.disk (disk_of reign.old.site)) (primary name.now reign.old) (D.disk (disk_of reign.new.site)) (primary_after name.now reign.new ended) text.old text.new (is_done_at ended)) }
+    ensures cut_off { OnErr result (IsCutAt (rows.print lost generation name.now) (D.disk (disk_of reign.old.site)) (primary name.now reign.old) (D.disk (disk_of reign.new.site))) }
+{
+    typing_reads_files();
+    let mut bytes = Bytes::new(text.allocator());
+    let read = reign
+        .site
+        .read_file(typed_file(lost, generation), &mut bytes);
+    tell_bytes(read, &bytes, name, text)
+}
+
+/// Shows the lost-transaction or the broken-transaction file of a generation of an open site, as it reads. It counts as not done: no
+/// command goes on behind it.
+pub fn print_open<D: Disk>(
+    mut reign: Box<Reign<D>>,
+    name: Bytes,
+    lost: bool,
+    generation: u32,
+    text: &mut Bytes,
+) -> (Slot<D>, Result<Ended, NoMemory>)
+    requires ready { IsReadyOpen D.disk reign.value }
+    requires some { 1 ≤ generation }
+    requires most { generation ≤ 65535 }
+    ensures ready { OnOk result.1 (IsReadySlot D.disk result.0) }
+    ensures left { Leaves D.disk (row_at (rows.print lost generation)) (Slot.Open reign name) result text.old text.new }
+{
+    let ended = print_site(reign.as_mut(), name.as_slice(), lost, generation, text);
+    opened(reign, name, ended)
 }

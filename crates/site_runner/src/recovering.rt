@@ -14,14 +14,17 @@ ghost use Rattle.mupip_rollback.specs.Rolling.{StandsFor, MayBeRecoveredAs, MayB
 ghost use Rattle.world_defs.specs.rows.Recover as rows;
 ghost use Rattle.world_defs.specs.rows.Recover.{IsUnrecovered};
 ghost use Rattle.site_runner.specs.Recovering.{IsHeldFor};
-ghost use Rattle.site_runner.specs.declared.slot.State.TheVariants.{Down};
-ghost use Rattle.site_runner.specs.Sites.{IsReadyState};
+ghost use Rattle.world_defs.specs.Meaning.{row_at};
+ghost use Rattle.site_runner.specs.Ending.{down, down_after, is_done_at};
+ghost use Rattle.site_runner.specs.Executes.{Leaves};
+ghost use Rattle.site_runner.specs.Sites.{IsReadySlot};
 ghost use Rattle.site_runner.specs.Steps.{ExecutesAt, IsCutAt};
 
 use super::answering::{damaged, fail, refuse};
 use super::cause::Cause;
+use super::ending::{Ended, closed};
 use super::refusing::{Needing, refuse_region};
-use super::slot::Site;
+use super::slot::Slot;
 use super::text::write_numbered;
 use gvn_key::{Bytes, NoMemory};
 use mupip_rollback::{RollError, recover_backward, recover_forward};
@@ -61,49 +64,40 @@ fn recover_on<D: Disk>(alloc: Global, disk: &mut D, anew: bool) -> Result<u64, R
 fn recover_down<D: Disk>(
     alloc: Global,
     disk: &mut D,
-    site: &mut Site,
+    name: &[u8],
     anew: bool,
     text: &mut Bytes,
-) -> Result<bool, NoMemory>
-    requires { site.old.state ≡ Down }
-    ensures ready { OnOk result (IsReadyState (D.disk disk.new) site.new.state) }
-    ensures done { IfOk result (λ done. ExecutesAt (rows.recover anew site.old.name) (D.disk disk.old) site.old (D.disk disk.new) site.new text.old text.new done) }
-    ensures cut_off { OnErr result (IsCutAt (rows.recover anew site.old.name) (D.disk disk.old) site.old (D.disk disk.new)) }
+) -> Result<Ended, NoMemory>
+    ensures done { IfOk result (λ ended. ExecutesAt (rows.recover anew name.now) (D.disk disk.old) (down name.now) (D.disk disk.new) (down_after name.now ended) text.old text.new (is_done_at ended)) }
+    ensures cut_off { OnErr result (IsCutAt (rows.recover anew name.now) (D.disk disk.old) (down name.now) (D.disk disk.new)) }
 {
     leftovers_hold();
     match recover_on(alloc, disk, anew) {
         Ok(count) => {
-            write_numbered(text, site.name.as_slice(), b"RECOVERED ", count)?;
-            Ok(true)
+            write_numbered(text, name, b"RECOVERED ", count)?;
+            Ok(Ended::Done)
         }
-        Err(RollError::GenLimit) => refuse(text, site.name.as_slice(), &Cause::GenLimit),
+        Err(RollError::GenLimit) => refuse(text, name, &Cause::GenLimit),
         Err(RollError::NeedForward { region }) => {
-            refuse_region(alloc, disk, site, region, Needing::Opening, text)
+            refuse_region(alloc, disk, name, region, Needing::Opening, text)
         }
-        Err(RollError::Failed { fault }) => fail(site, fault, text),
-        Err(RollError::NotAFile { file, offset }) => {
-            damaged(text, site.name.as_slice(), file, offset)
-        }
+        Err(RollError::Failed { fault }) => fail(text, name, fault),
+        Err(RollError::NotAFile { file, offset }) => { damaged(text, name, file, offset) }
         Err(_) => Err(NoMemory),
     }
 }
 
-/// Opens a site that is down and closes it again, with its blocks made anew or not, and shows how many entries it has. Answers whether
-/// that was done.
+/// Opens a site that is down and closes it again, with its blocks made anew or not, and shows how many entries it has.
 pub fn recover<D: Disk>(
     alloc: Global,
-    disk: &mut D,
-    site: &mut Site,
+    mut disk: D,
+    name: Bytes,
     anew: bool,
     text: &mut Bytes,
-) -> Result<bool, NoMemory>
-    requires { IsReadyState (D.disk disk.old) site.old.state }
-    ensures ready { OnOk result (IsReadyState (D.disk disk.new) site.new.state) }
-    ensures done { IfOk result (λ done. ExecutesAt (rows.recover anew site.old.name) (D.disk disk.old) site.old (D.disk disk.new) site.new text.old text.new done) }
-    ensures cut_off { OnErr result (IsCutAt (rows.recover anew site.old.name) (D.disk disk.old) site.old (D.disk disk.new)) }
+) -> (Slot<D>, Result<Ended, NoMemory>)
+    ensures ready { OnOk result.1 (IsReadySlot D.disk result.0) }
+    ensures left { Leaves D.disk (row_at (rows.recover anew)) (Slot.Down disk name) result text.old text.new }
 {
-    if let Some(cause) = site.state.why_not_down() {
-        return refuse(text, site.name.as_slice(), &cause);
-    }
-    recover_down(alloc, disk, site, anew, text)
+    let ended = recover_down(alloc, &mut disk, name.as_slice(), anew, text);
+    closed(disk, name, ended)
 }

@@ -1,16 +1,17 @@
 // Refusals for a region that needs forward recovery.
-ghost use Rattle.std.specs.Prelude.{◌≡◌, false, slice_get, IfOk, IfSome, OnOk, OnErr};
-ghost use Rattle.site_runner.specs.declared.slot.State.TheVariants.{Down};
+ghost use Rattle.std.specs.Prelude.{◌≡◌, slice_get, IfOk, IfSome, OnErr};
+ghost use Rattle.site_runner.specs.declared.ending.Ended.TheVariants.{Undone};
 ghost use Rattle.site_runner.specs.Causes.{cause_value};
 ghost use Rattle.site_runner.specs.Refusing.{Refusable, cause_of, IsAskedBy, NeedsForward, TellsRegion, RefusesAt, IsCutDown};
-ghost use Rattle.site_runner.specs.Sites.{IsReadyState};
+ghost use Rattle.site_runner.specs.Ending.{down, down_after, is_done_at};
 
 use super::answering::{damaged, fail, refuse};
 use super::cause::Cause;
-use super::slot::Site;
+use super::ending::Ended;
 use gvn_key::{Bytes, NoMemory};
 use repl_disk::Disk;
-use site_store::{Layout, SiteError, find};
+use site_making::find;
+use site_store::{Layout, SiteError};
 use std::alloc::Global;
 use world_laws::leftovers::{files_stand_for_one, leftovers_hold};
 
@@ -42,8 +43,8 @@ fn refuse_found(
     region: u8,
     needing: Needing,
     text: &mut Bytes,
-) -> Result<bool, NoMemory>
-    ensures { IfOk result (λ done. (done ≡ false) × TellsRegion (slice_get found.now.regions.items region) name.now needing text.old text.new) }
+) -> Result<Ended, NoMemory>
+    ensures { IfOk result (λ ended. (ended ≡ Undone) × TellsRegion (slice_get found.now.regions.items region) name.now needing text.old text.new) }
 {
     match found.regions.get(usize::from(region)) {
         None => damaged(text, name, 0, 0),
@@ -58,25 +59,21 @@ fn refuse_found(
 pub fn refuse_region<D: Disk>(
     alloc: Global,
     disk: &mut D,
-    site: &mut Site,
+    name: &[u8],
     region: u8,
     needing: Needing,
     text: &mut Bytes,
-) -> Result<bool, NoMemory>
-    requires { site.old.state ≡ Down }
-    ensures ready { OnOk result (IsReadyState (D.disk disk.new) site.new.state) }
-    ensures done { (command : Refusable) → IsAskedBy command needing → IfSome (D.disk disk.old).content (NeedsForward command needing region) → IfOk result (λ done. RefusesAt command (D.disk disk.old) site.old (D.disk disk.new) site.new text.old text.new done) }
-    ensures cut_off { (command : Refusable) → OnErr result (IsCutDown command (D.disk disk.old) site.old (D.disk disk.new)) }
+) -> Result<Ended, NoMemory>
+    ensures done { (command : Refusable) → IsAskedBy command needing → IfSome (D.disk disk.old).content (NeedsForward command needing region) → IfOk result (λ ended. RefusesAt command (D.disk disk.old) (down name.now) (D.disk disk.new) (down_after name.now ended) text.old text.new (is_done_at ended)) }
+    ensures cut_off { (command : Refusable) → OnErr result (IsCutDown command (D.disk disk.old) (down name.now) (D.disk disk.new)) }
 {
     leftovers_hold();
     files_stand_for_one();
     match find(alloc, disk) {
-        Ok(Some(found)) => refuse_found(site.name.as_slice(), &found.layout, region, needing, text),
-        Ok(None) => damaged(text, site.name.as_slice(), 0, 0),
-        Err(SiteError::Failed { fault }) => fail(site, fault, text),
-        Err(SiteError::NotAFile { file, offset }) => {
-            damaged(text, site.name.as_slice(), file, offset)
-        }
+        Ok(Some(found)) => refuse_found(name, &found.layout, region, needing, text),
+        Ok(None) => damaged(text, name, 0, 0),
+        Err(SiteError::Failed { fault }) => fail(text, name, fault),
+        Err(SiteError::NotAFile { file, offset }) => { damaged(text, name, file, offset) }
         Err(_) => Err(NoMemory),
     }
 }

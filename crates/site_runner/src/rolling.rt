@@ -1,14 +1,17 @@
 // ROLLBACK RESYNC.
 ghost use Rattle.std.specs.Prelude.{◌≡◌, ◌≤◌, IfOk, OnOk, OnErr};
 ghost use Rattle.world_defs.specs.rows.Rollback as rows;
-ghost use Rattle.site_runner.specs.declared.slot.State.TheVariants.{Down};
-ghost use Rattle.site_runner.specs.Sites.{IsReadyState};
+ghost use Rattle.world_defs.specs.Meaning.{row_at};
+ghost use Rattle.site_runner.specs.Ending.{down, down_after, is_done_at};
+ghost use Rattle.site_runner.specs.Executes.{Leaves};
+ghost use Rattle.site_runner.specs.Sites.{IsReadySlot};
 ghost use Rattle.site_runner.specs.Steps.{ExecutesAt, IsCutAt};
 
 use super::answering::{damaged, fail, refuse};
 use super::cause::Cause;
+use super::ending::{Ended, closed};
 use super::refusing::{Needing, refuse_region};
-use super::slot::Site;
+use super::slot::Slot;
 use super::text::write_rolled;
 use gvn_key::{Bytes, NoMemory};
 use mupip_rollback::RollError;
@@ -20,59 +23,51 @@ use world_laws::leftovers::leftovers_hold;
 fn roll_down<D: Disk>(
     alloc: Global,
     disk: &mut D,
-    site: &mut Site,
+    name: &[u8],
     number: u64,
     text: &mut Bytes,
-) -> Result<bool, NoMemory>
+) -> Result<Ended, NoMemory>
     requires some { 1 ≤ number }
-    requires down { site.old.state ≡ Down }
-    ensures ready { OnOk result (IsReadyState (D.disk disk.new) site.new.state) }
-    ensures done { IfOk result (λ done. ExecutesAt (rows.rollback number site.old.name) (D.disk disk.old) site.old (D.disk disk.new) site.new text.old text.new done) }
-    ensures cut_off { OnErr result (IsCutAt (rows.rollback number site.old.name) (D.disk disk.old) site.old (D.disk disk.new)) }
+    ensures done { IfOk result (λ ended. ExecutesAt (rows.rollback number name.now) (D.disk disk.old) (down name.now) (D.disk disk.new) (down_after name.now ended) text.old text.new (is_done_at ended)) }
+    ensures cut_off { OnErr result (IsCutAt (rows.rollback number name.now) (D.disk disk.old) (down name.now) (D.disk disk.new)) }
 {
     leftovers_hold();
     match mupip_rollback::rollback(alloc, disk, number - 1) {
         Ok(rolled) => {
-            write_rolled(text, site.name.as_slice(), rolled.kept, rolled.lost)?;
-            Ok(true)
+            write_rolled(text, name, rolled.kept, rolled.lost)?;
+            Ok(Ended::Done)
         }
         Err(RollError::NoBeforeImage { region, generation }) => {
             refuse_region(
                 alloc,
                 disk,
-                site,
+                name,
                 region,
                 Needing::Rollback { generation },
                 text,
             )
         }
-        Err(RollError::GenLimit) => refuse(text, site.name.as_slice(), &Cause::GenLimit),
-        Err(RollError::Failed { fault }) => fail(site, fault, text),
-        Err(RollError::NotAFile { file, offset }) => {
-            damaged(text, site.name.as_slice(), file, offset)
-        }
+        Err(RollError::GenLimit) => refuse(text, name, &Cause::GenLimit),
+        Err(RollError::Failed { fault }) => fail(text, name, fault),
+        Err(RollError::NotAFile { file, offset }) => { damaged(text, name, file, offset) }
         Err(RollError::NeedForward { .. }) => unreachable!(),
         Err(RollError::NoMemory) => Err(NoMemory),
     }
 }
 
-/// Rolls a site back so that its next entry has that number, where there are as many, and shows how many entries stay and which
-/// lost-transaction file has the others. Answers whether that was done.
+/// Rolls a site that is down back so that its next entry has that number, where there are as many, and shows how many entries stay and
+/// which lost-transaction file has the others.
 pub fn rollback<D: Disk>(
     alloc: Global,
-    disk: &mut D,
-    site: &mut Site,
+    mut disk: D,
+    name: Bytes,
     number: u64,
     text: &mut Bytes,
-) -> Result<bool, NoMemory>
-    requires some { 1 ≤ number }
-    requires ready { IsReadyState (D.disk disk.old) site.old.state }
-    ensures ready { OnOk result (IsReadyState (D.disk disk.new) site.new.state) }
-    ensures done { IfOk result (λ done. ExecutesAt (rows.rollback number site.old.name) (D.disk disk.old) site.old (D.disk disk.new) site.new text.old text.new done) }
-    ensures cut_off { OnErr result (IsCutAt (rows.rollback number site.old.name) (D.disk disk.old) site.old (D.disk disk.new)) }
+) -> (Slot<D>, Result<Ended, NoMemory>)
+    requires { 1 ≤ number }
+    ensures ready { OnOk result.1 (IsReadySlot D.disk result.0) }
+    ensures left { Leaves D.disk (row_at (rows.rollback number)) (Slot.Down disk name) result text.old text.new }
 {
-    if let Some(cause) = site.state.why_not_down() {
-        return refuse(text, site.name.as_slice(), &cause);
-    }
-    roll_down(alloc, disk, site, number, text)
+    let ended = roll_down(alloc, &mut disk, name.as_slice(), number, text);
+    closed(disk, name, ended)
 }

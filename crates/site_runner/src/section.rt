@@ -1,58 +1,56 @@
 // RUN.
-ghost use Rattle.std.specs.Prelude.{IfOk, OnOk, OnErr};
+ghost use Rattle.std.specs.Prelude.{OnOk};
 ghost use Rattle.command_defs.specs.Commands.{UsesUp};
 ghost use Rattle.repl_script.specs.Places.{at_all};
+ghost use Rattle.world_defs.specs.Meaning.{row_at};
 ghost use Rattle.world_defs.specs.rows.Run.{run};
-ghost use Rattle.site_runner.specs.Sites.{IsReadyState};
-ghost use Rattle.site_runner.specs.Steps.{ExecutesAt, IsCutAt};
+ghost use Rattle.site_runner.specs.Executes.{Leaves};
+ghost use Rattle.site_runner.specs.Sites.{IsReadyOpen, IsReadySlot};
 
-use super::answering::refuse;
-use super::slot::{Site, State};
+use super::ending::Ended;
+use super::slot::Slot;
 use super::text::{write_numbered, write_undecided};
 use gvn_key::{Bytes, NoMemory};
 use gvn_model::Jobs;
 use repl_disk::Disk;
-use repl_section::RunError;
+use repl_section::{Reign, RunError};
 use site_store::nothing_is_left;
 use std::alloc::Global;
 use world_laws::leftovers::leftovers_hold;
 
-/// Decides updaters' jobs at a site, one after another in the order of their first lines. A section counts as not done: no command
-/// goes on behind it.
+/// Decides updaters' jobs at an open site, one after another in the order of their first lines. A section counts as not done: no
+/// command goes on behind it. A site whose disk has failed is given up.
 pub fn run_section<D: Disk>(
     alloc: Global,
-    disk: &mut D,
-    site: &mut Site,
+    mut reign: Box<Reign<D>>,
+    name: Bytes,
     mut jobs: Jobs,
     order: &[u8],
     text: &mut Bytes,
-) -> Result<bool, NoMemory>
+) -> (Slot<D>, Result<Ended, NoMemory>)
     requires whole { UsesUp (at_all jobs) order.now }
-    requires ready { IsReadyState (D.disk disk.old) site.old.state }
-    ensures ready { OnOk result (IsReadyState (D.disk disk.new) site.new.state) }
-    ensures done { IfOk result (λ done. ExecutesAt (run (at_all jobs) order.now site.old.name) (D.disk disk.old) site.old (D.disk disk.new) site.new text.old text.new done) }
-    ensures cut_off { OnErr result (IsCutAt (run (at_all jobs) order.now site.old.name) (D.disk disk.old) site.old (D.disk disk.new)) }
+    requires ready { IsReadyOpen D.disk reign.value }
+    ensures ready { OnOk result.1 (IsReadySlot D.disk result.0) }
+    ensures left { Leaves D.disk (row_at (run (at_all jobs) order.now)) (Slot.Open reign name) result text.old text.new }
 {
     leftovers_hold();
-    if let Some(cause) = site.state.why_not_primary() {
-        return refuse(text, site.name.as_slice(), &cause);
-    }
-    let State::Primary(reign) = &mut site.state else {
-        unreachable!();
-    };
-    match reign.run(alloc, disk, &mut jobs, order, text) {
+    let open = reign.as_mut();
+    match open.run(alloc, &mut jobs, order, text) {
         Ok(()) => {
-            nothing_is_left(disk);
-            let length = reign.site.sequence_length();
-            write_numbered(text, site.name.as_slice(), b"AT ", length)?;
-            Ok(false)
+            nothing_is_left(&open.site);
+            let length = open.site.sequence_length();
+            let written = write_numbered(text, name.as_slice(), b"AT ", length);
+            (Slot::Open { reign, name }, Ended::Undone.after(written))
         }
         Err(RunError::Failed { undecided }) => {
+            let disk = Box::into_inner(reign).site.abandon();
             let fault = disk.faults();
-            write_undecided(text, site.name.as_slice(), fault, undecided)?;
-            site.state = State::Failed { fault };
-            Ok(false)
+            let written = write_undecided(text, name.as_slice(), fault, undecided);
+            (
+                Slot::Failed { disk, name, fault },
+                Ended::Failed { fault }.after(written),
+            )
         }
-        Err(RunError::NoMemory) => Err(NoMemory),
+        Err(RunError::NoMemory) => (Slot::Open { reign, name }, Err(NoMemory)),
     }
 }

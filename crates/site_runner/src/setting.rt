@@ -7,24 +7,29 @@ ghost use Rattle.journal_defs.specs.Stands.{IsInstance};
 ghost use Rattle.site_defs.specs.Contents.{Contents};
 ghost use Rattle.site_defs.specs.Limits.{region_number};
 ghost use Rattle.site_defs.specs.Stands.{IsSite, Stands};
-ghost use Rattle.site_store.specs.Finding.{IsFound, IsFoundIn};
+ghost use Rattle.site_store.specs.Finding.{IsFound};
+ghost use Rattle.site_making.specs.Finding.{IsFoundIn};
 ghost use Rattle.world_defs.specs.rows.SetJournal as rows;
 ghost use Rattle.world_defs.specs.rows.SetJournal.{unset_by};
-ghost use Rattle.site_runner.specs.declared.slot.State.TheVariants.{Down};
 ghost use Rattle.site_runner.specs.Setting.{SetsAt, IsCutSet};
-ghost use Rattle.site_runner.specs.Sites.{IsReadyState};
+ghost use Rattle.world_defs.specs.Meaning.{row_at};
+ghost use Rattle.site_runner.specs.Ending.{down, down_after, is_done_at};
+ghost use Rattle.site_runner.specs.Executes.{Leaves};
+ghost use Rattle.site_runner.specs.Sites.{IsReadySlot};
 ghost use Rattle.site_runner.specs.Steps.{ExecutesAt, IsCutAt};
 
 use super::answering::{damaged, fail, refuse};
 use super::cause::Cause;
+use super::ending::{Ended, closed};
 use super::mapping::{is_named, region_named};
-use super::slot::Site;
+use super::slot::Slot;
 use super::text::write_mode;
 use gvn_key::{Bytes, NoMemory};
 use instance_file::InstanceLog;
 use mupip_rollback::{RollError, set_mode_logged};
 use repl_disk::Disk;
-use site_store::{FoundSite, SiteError, find};
+use site_making::{FoundSite, find};
+use site_store::SiteError;
 use std::alloc::Global;
 use world_laws::leftovers::leftovers_hold;
 
@@ -32,36 +37,32 @@ use world_laws::leftovers::leftovers_hold;
 fn set_there<D: Disk>(
     alloc: Global,
     disk: &mut D,
-    site: &mut Site,
+    name: &[u8],
     log: InstanceLog,
     number: u8,
     region: &Bytes,
     before: bool,
     text: &mut Bytes,
-) -> Result<bool, NoMemory>
+) -> Result<Ended, NoMemory>
     requires there { IfSome (D.disk disk.old).content (λ files. (c : Contents) → IsSite files c → region_number region.now c ≡ Some number) }
     requires named { (c : Contents) × (region_number region.now c ≡ Some number) }
     requires inside { number < length (regions log.records) }
     requires few { length (regions log.records) ≤ 8 }
-    requires called { site_name log.records ≡ site.old.name }
+    requires called { site_name log.records ≡ name.now }
     requires unset { unset_by region.now log.records ≡ None }
     requires told { IfSome (D.disk disk.old).content (λ files. IsInstance (files INSTANCE) log.records) }
     requires durable { IfSome (D.disk disk.old).content (λ files. IsDurable (D.disk disk.old) INSTANCE (files INSTANCE)) }
-    requires down { site.old.state ≡ Down }
-    ensures ready { OnOk result (IsReadyState (D.disk disk.new) site.new.state) }
-    ensures done { IfOk result (λ done. SetsAt region.now before (D.disk disk.old) site.old (D.disk disk.new) site.new text.old text.new done) }
-    ensures cut_off { OnErr result (IsCutSet region.now before (D.disk disk.old) site.old (D.disk disk.new)) }
+    ensures done { IfOk result (λ ended. SetsAt region.now before (D.disk disk.old) (down name.now) (D.disk disk.new) (down_after name.now ended) text.old text.new (is_done_at ended)) }
+    ensures cut_off { OnErr result (IsCutSet region.now before (D.disk disk.old) (down name.now) (D.disk disk.new)) }
 {
     leftovers_hold();
     match set_mode_logged(alloc, disk, log, number, before) {
         Ok(()) => {
-            write_mode(text, site.name.as_slice(), region.as_slice(), before)?;
-            Ok(true)
+            write_mode(text, name, region.as_slice(), before)?;
+            Ok(Ended::Done)
         }
-        Err(RollError::Failed { fault }) => fail(site, fault, text),
-        Err(RollError::NotAFile { file, offset }) => {
-            damaged(text, site.name.as_slice(), file, offset)
-        }
+        Err(RollError::Failed { fault }) => fail(text, name, fault),
+        Err(RollError::NotAFile { file, offset }) => { damaged(text, name, file, offset) }
         Err(_) => Err(NoMemory),
     }
 }
@@ -70,27 +71,25 @@ fn set_there<D: Disk>(
 fn set_found<D: Disk>(
     alloc: Global,
     disk: &mut D,
-    site: &mut Site,
+    name: &[u8],
     found: FoundSite,
     region: Bytes,
     before: bool,
     text: &mut Bytes,
-) -> Result<bool, NoMemory>
+) -> Result<Ended, NoMemory>
     requires found { IfSome (D.disk disk.old).content (λ files. (c : Contents) → Stands files c → IsFound c (Some found.layout)) }
     requires told { IsFoundIn (D.disk disk.old) found }
-    requires down { site.old.state ≡ Down }
-    ensures ready { OnOk result (IsReadyState (D.disk disk.new) site.new.state) }
-    ensures done { IfOk result (λ done. SetsAt region before (D.disk disk.old) site.old (D.disk disk.new) site.new text.old text.new done) }
-    ensures cut_off { OnErr result (IsCutSet region before (D.disk disk.old) site.old (D.disk disk.new)) }
+    ensures done { IfOk result (λ ended. SetsAt region before (D.disk disk.old) (down name.now) (D.disk disk.new) (down_after name.now ended) text.old text.new (is_done_at ended)) }
+    ensures cut_off { OnErr result (IsCutSet region before (D.disk disk.old) (down name.now) (D.disk disk.new)) }
 {
     leftovers_hold();
     let FoundSite { layout, log } = found;
-    if !is_named(&layout, site.name.as_slice()) {
-        return damaged(text, site.name.as_slice(), 0, 0);
+    if !is_named(&layout, name) {
+        return damaged(text, name, 0, 0);
     }
     match region_named(&layout, region.as_slice()) {
-        None => refuse(text, site.name.as_slice(), &Cause::NoRegion { region }),
-        Some(number) => set_there(alloc, disk, site, log, number, &region, before, text),
+        None => refuse(text, name, &Cause::NoRegion { region }),
+        Some(number) => set_there(alloc, disk, name, log, number, &region, before, text),
     }
 }
 
@@ -98,44 +97,36 @@ fn set_found<D: Disk>(
 fn set_down<D: Disk>(
     alloc: Global,
     disk: &mut D,
-    site: &mut Site,
+    name: &[u8],
     region: Bytes,
     before: bool,
     text: &mut Bytes,
-) -> Result<bool, NoMemory>
-    requires { site.old.state ≡ Down }
-    ensures ready { OnOk result (IsReadyState (D.disk disk.new) site.new.state) }
-    ensures done { IfOk result (λ done. ExecutesAt (rows.set_journal region before site.old.name) (D.disk disk.old) site.old (D.disk disk.new) site.new text.old text.new done) }
-    ensures cut_off { OnErr result (IsCutAt (rows.set_journal region before site.old.name) (D.disk disk.old) site.old (D.disk disk.new)) }
+) -> Result<Ended, NoMemory>
+    ensures done { IfOk result (λ ended. ExecutesAt (rows.set_journal region before name.now) (D.disk disk.old) (down name.now) (D.disk disk.new) (down_after name.now ended) text.old text.new (is_done_at ended)) }
+    ensures cut_off { OnErr result (IsCutAt (rows.set_journal region before name.now) (D.disk disk.old) (down name.now) (D.disk disk.new)) }
 {
     leftovers_hold();
     match find(alloc, disk) {
-        Ok(Some(found)) => set_found(alloc, disk, site, found, region, before, text),
-        Ok(None) => damaged(text, site.name.as_slice(), 0, 0),
-        Err(SiteError::Failed { fault }) => fail(site, fault, text),
-        Err(SiteError::NotAFile { file, offset }) => {
-            damaged(text, site.name.as_slice(), file, offset)
-        }
+        Ok(Some(found)) => set_found(alloc, disk, name, found, region, before, text),
+        Ok(None) => damaged(text, name, 0, 0),
+        Err(SiteError::Failed { fault }) => fail(text, name, fault),
+        Err(SiteError::NotAFile { file, offset }) => { damaged(text, name, file, offset) }
         Err(_) => Err(NoMemory),
     }
 }
 
-/// Has a region's later generations keep images, or not. Answers whether that was done.
+/// Has the later generations of a region of a site that is down keep images, or not.
 pub fn set_journal<D: Disk>(
     alloc: Global,
-    disk: &mut D,
-    site: &mut Site,
+    mut disk: D,
+    name: Bytes,
     region: Bytes,
     before: bool,
     text: &mut Bytes,
-) -> Result<bool, NoMemory>
-    requires { IsReadyState (D.disk disk.old) site.old.state }
-    ensures ready { OnOk result (IsReadyState (D.disk disk.new) site.new.state) }
-    ensures done { IfOk result (λ done. ExecutesAt (rows.set_journal region before site.old.name) (D.disk disk.old) site.old (D.disk disk.new) site.new text.old text.new done) }
-    ensures cut_off { OnErr result (IsCutAt (rows.set_journal region before site.old.name) (D.disk disk.old) site.old (D.disk disk.new)) }
+) -> (Slot<D>, Result<Ended, NoMemory>)
+    ensures ready { OnOk result.1 (IsReadySlot D.disk result.0) }
+    ensures left { Leaves D.disk (row_at (rows.set_journal region before)) (Slot.Down disk name) result text.old text.new }
 {
-    if let Some(cause) = site.state.why_not_down() {
-        return refuse(text, site.name.as_slice(), &cause);
-    }
-    set_down(alloc, disk, site, region, before, text)
+    let ended = set_down(alloc, &mut disk, name.as_slice(), region, before, text);
+    closed(disk, name, ended)
 }

@@ -1,21 +1,27 @@
 // SHOW.
-ghost use Rattle.std.specs.Prelude.{◌≡◌, ◌++◌, map, IfOk, OnOk};
+ghost use Rattle.std.specs.Prelude.{◌≡◌, ◌++◌, map, OnOk};
+ghost use Rattle.std.specs.Option.{option_copied};
 ghost use Rattle.std.specs.List.{flat_map};
 ghost use Rattle.gvn_model.specs.Reigns.{reign_value};
 ghost use Rattle.world_defs.specs.Answers.{line};
+ghost use Rattle.world_defs.specs.Meaning.{row_at};
 ghost use Rattle.world_defs.specs.rows.Show as rows;
 ghost use Rattle.world_defs.specs.rows.Show.{reign_text};
 ghost use Rattle.repl_section.specs.Reigns.{stamp_in};
-ghost use Rattle.site_runner.specs.Steps.{ExecutesAt, state_text};
+ghost use Rattle.site_runner.specs.Executes.{Leaves};
+ghost use Rattle.site_runner.specs.Sites.{IsReadyOpen, IsReadySlot, Primary, reign_in};
+ghost use Rattle.site_runner.specs.Steps.{state_text};
 
-use super::slot::{Site, State};
+use super::ending::Ended;
+use super::slot::Slot;
 use super::text::{write_line, write_numbered, write_open, write_reign};
 use gvn_key::{Bytes, NoMemory};
-use gvn_model::{Reign, Stamp};
+use gvn_model::{Reign as PastReign, Stamp};
 use repl_disk::Disk;
+use repl_section::Reign;
 
 /// Adds a line for each reign.
-fn write_reigns(name: &[u8], reigns: &[Reign], text: &mut Bytes) -> Result<(), NoMemory>
+fn write_reigns(name: &[u8], reigns: &[PastReign], text: &mut Bytes) -> Result<(), NoMemory>
     ensures { OnOk result (text.new ≡ text.old ++ flat_map (λ r. line name.now (reign_text r)) (map reign_value reigns.now)) }
 {
     for reign in reigns {
@@ -25,8 +31,8 @@ fn write_reigns(name: &[u8], reigns: &[Reign], text: &mut Bytes) -> Result<(), N
 }
 
 /// The cycle of a reign that was begun.
-fn begun_cycle(stamp: &Option<Stamp>) -> u32
-    ensures { result ≡ (stamp_in stamp.now).cycle }
+fn begun_cycle(stamp: Option<&Stamp>) -> u32
+    ensures { result ≡ (stamp_in (option_copied stamp.entry)).cycle }
 {
     match stamp {
         None => 0,
@@ -34,26 +40,56 @@ fn begun_cycle(stamp: &Option<Stamp>) -> u32
     }
 }
 
-/// Adds a site's state, and where it's open its length and the reigns of its entries.
-fn write_state(site: &Site, text: &mut Bytes) -> Result<(), NoMemory>
-    ensures { OnOk result (text.new ≡ text.old ++ state_text site.now.name site.now.state) }
+/// Adds the state of an open site, its length and the reigns of its entries.
+fn write_state<D: Disk>(reign: &Reign<D>, name: &[u8], text: &mut Bytes) -> Result<(), NoMemory>
+    requires { IsReadyOpen D.disk reign.now }
+    ensures { OnOk result (text.new ≡ text.old ++ state_text name.now (Primary (reign_in reign.now))) }
 {
-    let name = site.name.as_slice();
-    match &site.state {
-        State::Down => write_line(text, name, b"STATE DOWN"),
-        State::Failed { fault } => write_numbered(text, name, b"STATE FAILED ", *fault),
-        State::Primary(reign) => {
-            let cycle = begun_cycle(&reign.site.stamp);
-            write_open(text, name, cycle, reign.site.sequence_length())?;
-            write_reigns(name, reign.site.history().as_slice(), text)
-        }
-    }
+    let cycle = begun_cycle(reign.site.stamp());
+    write_open(text, name, cycle, reign.site.sequence_length())?;
+    write_reigns(name, reign.site.history().reigns.as_slice(), text)
 }
 
-/// Shows a site. Answers that it was done.
-pub fn show<D: Disk>(disk: &D, site: &Site, text: &mut Bytes) -> Result<bool, NoMemory>
-    ensures { IfOk result (λ done. ExecutesAt (rows.show site.now.name) (D.disk disk.now) site.now (D.disk disk.now) site.now text.old text.new done) }
+/// Shows a site that is down.
+pub fn show_down<D: Disk>(
+    disk: D,
+    name: Bytes,
+    text: &mut Bytes,
+) -> (Slot<D>, Result<Ended, NoMemory>)
+    ensures ready { OnOk result.1 (IsReadySlot D.disk result.0) }
+    ensures left { Leaves D.disk (row_at rows.show) (Slot.Down disk name) result text.old text.new }
 {
-    write_state(site, text)?;
-    Ok(true)
+    let written = write_line(text, name.as_slice(), b"STATE DOWN");
+    (Slot::Down { disk, name }, Ended::Done.after(written))
+}
+
+/// Shows an open site.
+pub fn show_open<D: Disk>(
+    reign: Box<Reign<D>>,
+    name: Bytes,
+    text: &mut Bytes,
+) -> (Slot<D>, Result<Ended, NoMemory>)
+    requires { IsReadyOpen D.disk reign.value }
+    ensures ready { OnOk result.1 (IsReadySlot D.disk result.0) }
+    ensures left { Leaves D.disk (row_at rows.show) (Slot.Open reign name) result text.old text.new }
+{
+    let written = write_state(reign.as_ref(), name.as_slice(), text);
+    (Slot::Open { reign, name }, Ended::Done.after(written))
+}
+
+/// Shows a site that has failed.
+pub fn show_failed<D: Disk>(
+    disk: D,
+    name: Bytes,
+    fault: u64,
+    text: &mut Bytes,
+) -> (Slot<D>, Result<Ended, NoMemory>)
+    ensures ready { OnOk result.1 (IsReadySlot D.disk result.0) }
+    ensures left { Leaves D.disk (row_at rows.show) (Slot.Failed disk name fault) result text.old text.new }
+{
+    let written = write_numbered(text, name.as_slice(), b"STATE FAILED ", fault);
+    (
+        Slot::Failed { disk, name, fault },
+        Ended::Done.after(written),
+    )
 }

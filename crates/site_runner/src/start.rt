@@ -1,115 +1,129 @@
 // START PRIMARY.
-ghost use Rattle.std.specs.Prelude.{◌≡◌, ◌≢◌, IfOk, OnOk, OnErr, MatchBool};
-ghost use Rattle.journal_defs.specs.Instance.{site_name};
+ghost use Rattle.std.specs.Prelude.{◌≡◌, ◌≢◌, OnOk, MatchBool};
+ghost use Rattle.world_defs.specs.Meaning.{row_at};
 ghost use Rattle.world_defs.specs.rows.Start as rows;
-ghost use Rattle.site_store.specs.Site.{IsReady, WasOpened};
-ghost use Rattle.site_runner.specs.declared.slot.State.TheVariants.{Down};
-ghost use Rattle.site_runner.specs.Sites.{IsReadyState};
-ghost use Rattle.site_runner.specs.Steps.{ExecutesAt, IsCutAt};
-ghost use Rattle.site_runner.specs.Starting.{BeginsAt, IsCutOpened};
+ghost use Rattle.site_store.specs.Site.{WasOpened};
+ghost use Rattle.site_store.specs.Owning.{disk_of, memory_of, IsGoing};
+ghost use Rattle.site_runner.specs.Ending.{down};
+ghost use Rattle.site_runner.specs.Executes.{Leaves};
+ghost use Rattle.site_runner.specs.Sites.{IsReadySlot};
+ghost use Rattle.site_runner.specs.Starting.{BeginsAt, LeavesUnopened};
 
 use super::answering::{damaged, fail, refuse};
 use super::cause::Cause;
+use super::ending::{Ended, closed, opened};
 use super::refusing::{Needing, refuse_region};
-use super::slot::{Site, State};
+use super::slot::Slot;
 use super::text::write_primary;
 use gvn_key::{Bytes, NoMemory};
 use repl_disk::Disk;
 use repl_section::Reign;
-use site_store::{OpenSite, SiteError, created_name, load, nothing_is_left};
+use site_store::{Site, SiteError, nothing_is_left};
 use std::alloc::Global;
 use world_laws::leftovers::{files_stand_for_one, leftovers_hold};
 
 /// Whether the site that was opened has this name.
-fn is_named(opened: &OpenSite, name: &[u8]) -> bool
-    ensures { MatchBool result (site_name opened.now.instance.records ≡ name.now) (site_name opened.now.instance.records ≢ name.now) }
+fn is_named<D: Disk>(site: &Site<D>, name: &[u8]) -> bool
+    ensures { MatchBool result ((memory_of site.now).layout.name ≡ name.now) ((memory_of site.now).layout.name ≢ name.now) }
 {
-    created_name(opened.instance.records().as_slice()) == name
+    site.layout().name.as_slice() == name
 }
 
 /// Begins the reign of a site that was opened. Past the limit of reigns it's closed again.
 fn begin<D: Disk>(
     alloc: Global,
-    disk: &mut D,
-    site: &mut Site,
-    mut opened: OpenSite,
+    mut site: Site<D>,
+    name: Bytes,
     text: &mut Bytes,
-) -> Result<bool, NoMemory>
-    requires down { site.old.state ≡ Down }
-    requires ready { IsReady (D.disk disk.old) opened }
-    requires opened { WasOpened opened }
-    ensures ready { OnOk result (IsReadyState (D.disk disk.new) site.new.state) }
-    ensures done { IfOk result (λ done. BeginsAt (D.disk disk.old) opened site.old (D.disk disk.new) site.new text.old text.new done) }
-    ensures cut_off { OnErr result (IsCutOpened (D.disk disk.old) opened site.old (D.disk disk.new)) }
+) -> (Slot<D>, Result<Ended, NoMemory>)
+    requires ready { IsGoing D.disk site }
+    requires opened { WasOpened (memory_of site) }
+    ensures ready { OnOk result.1 (IsReadySlot D.disk result.0) }
+    ensures left { BeginsAt D.disk (D.disk (disk_of site)) (memory_of site) (down name) result text.old text.new }
 {
     leftovers_hold();
-    nothing_is_left(disk);
-    match opened.start_reign(alloc, disk) {
+    nothing_is_left(&site);
+    match site.start_reign() {
         Ok(stamp) => {
-            nothing_is_left(disk);
-            let from = opened.sequence_length() + 1;
-            write_primary(text, site.name.as_slice(), stamp.cycle, from)?;
+            nothing_is_left(&site);
+            let from = site.sequence_length() + 1;
+            let written = write_primary(text, name.as_slice(), stamp.cycle, from);
             let serials = [1; 64];
-            site.state = State::Primary(Reign {
-                site: opened,
-                serials,
-            });
-            Ok(true)
+            match Box::new(alloc, Reign { site, serials }) {
+                Ok(reign) => opened(reign, name, Ended::Done.after(written)),
+                Err(failed) => closed(failed.value.site.abandon(), name, Err(NoMemory)),
+            }
         }
-        Err(SiteError::ReignLimit) => refuse(text, site.name.as_slice(), &Cause::ReignLimit),
-        Err(SiteError::Failed { fault }) => fail(site, fault, text),
-        Err(_) => Err(NoMemory),
+        Err(SiteError::ReignLimit) => {
+            let ended = refuse(text, name.as_slice(), &Cause::ReignLimit);
+            closed(site.abandon(), name, ended)
+        }
+        Err(SiteError::Failed { fault }) => {
+            let ended = fail(text, name.as_slice(), fault);
+            closed(site.abandon(), name, ended)
+        }
+        Err(_) => closed(site.abandon(), name, Err(NoMemory)),
+    }
+}
+
+/// Answers that a site wasn't opened, by the error that its opening ended with.
+fn unopened<D: Disk>(
+    alloc: Global,
+    mut disk: D,
+    error: SiteError,
+    name: Bytes,
+    text: &mut Bytes,
+) -> (Slot<D>, Result<Ended, NoMemory>)
+    ensures ready { OnOk result.1 (IsReadySlot D.disk result.0) }
+    ensures left { LeavesUnopened D.disk disk error name result text.old text.new }
+{
+    leftovers_hold();
+    match error {
+        SiteError::GenLimit => {
+            let ended = refuse(text, name.as_slice(), &Cause::GenLimit);
+            closed(disk, name, ended)
+        }
+        SiteError::NeedForward { region } => {
+            let needing = Needing::Opening;
+            let ended = refuse_region(alloc, &mut disk, name.as_slice(), region, needing, text);
+            closed(disk, name, ended)
+        }
+        SiteError::Failed { fault } => {
+            let ended = fail(text, name.as_slice(), fault);
+            closed(disk, name, ended)
+        }
+        SiteError::NotAFile { file, offset } => {
+            let ended = damaged(text, name.as_slice(), file, offset);
+            closed(disk, name, ended)
+        }
+        _ => closed(disk, name, Err(NoMemory)),
     }
 }
 
 /// Opens a site that is down, and begins its reign. Where another site's instance file stands, it isn't this site's.
-fn open<D: Disk>(
+pub fn start<D: Disk>(
     alloc: Global,
-    disk: &mut D,
-    site: &mut Site,
+    disk: D,
+    name: Bytes,
     text: &mut Bytes,
-) -> Result<bool, NoMemory>
-    requires { site.old.state ≡ Down }
-    ensures ready { OnOk result (IsReadyState (D.disk disk.new) site.new.state) }
-    ensures done { IfOk result (λ done. ExecutesAt (rows.start site.old.name) (D.disk disk.old) site.old (D.disk disk.new) site.new text.old text.new done) }
-    ensures cut_off { OnErr result (IsCutAt (rows.start site.old.name) (D.disk disk.old) site.old (D.disk disk.new)) }
+) -> (Slot<D>, Result<Ended, NoMemory>)
+    ensures ready { OnOk result.1 (IsReadySlot D.disk result.0) }
+    ensures left { Leaves D.disk (row_at rows.start) (Slot.Down disk name) result text.old text.new }
 {
     leftovers_hold();
     files_stand_for_one();
-    match load(alloc, disk) {
-        Ok(opened) => {
-            if is_named(&opened, site.name.as_slice()) {
-                begin(alloc, disk, site, opened, text)
+    match Site::load(alloc, disk) {
+        Ok(site) => {
+            if is_named(&site, name.as_slice()) {
+                begin(alloc, site, name, text)
             } else {
-                damaged(text, site.name.as_slice(), 0, 0)
+                let ended = damaged(text, name.as_slice(), 0, 0);
+                closed(site.abandon(), name, ended)
             }
         }
-        Err(SiteError::GenLimit) => refuse(text, site.name.as_slice(), &Cause::GenLimit),
-        Err(SiteError::NeedForward { region }) => {
-            refuse_region(alloc, disk, site, region, Needing::Opening, text)
+        Err(failure) => {
+            let (disk, error) = failure;
+            unopened(alloc, disk, error, name, text)
         }
-        Err(SiteError::Failed { fault }) => fail(site, fault, text),
-        Err(SiteError::NotAFile { file, offset }) => {
-            damaged(text, site.name.as_slice(), file, offset)
-        }
-        Err(_) => Err(NoMemory),
     }
-}
-
-/// Opens a site, and begins its reign. Answers whether that was done.
-pub fn start<D: Disk>(
-    alloc: Global,
-    disk: &mut D,
-    site: &mut Site,
-    text: &mut Bytes,
-) -> Result<bool, NoMemory>
-    requires { IsReadyState (D.disk disk.old) site.old.state }
-    ensures ready { OnOk result (IsReadyState (D.disk disk.new) site.new.state) }
-    ensures done { IfOk result (λ done. ExecutesAt (rows.start site.old.name) (D.disk disk.old) site.old (D.disk disk.new) site.new text.old text.new done) }
-    ensures cut_off { OnErr result (IsCutAt (rows.start site.old.name) (D.disk disk.old) site.old (D.disk disk.new)) }
-{
-    if let Some(cause) = site.state.why_not_down() {
-        return refuse(text, site.name.as_slice(), &cause);
-    }
-    open(alloc, disk, site, text)
 }

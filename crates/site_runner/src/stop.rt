@@ -1,30 +1,32 @@
 // STOP.
-ghost use Rattle.std.specs.Prelude.{IfOk, OnOk, OnErr};
+ghost use Rattle.std.specs.Prelude.{OnOk};
+ghost use Rattle.world_defs.specs.Meaning.{row_at};
 ghost use Rattle.world_defs.specs.rows.Stop as rows;
-ghost use Rattle.site_runner.specs.Sites.{IsReadyState};
-ghost use Rattle.site_runner.specs.Steps.{ExecutesAt, IsCutAt};
+ghost use Rattle.site_runner.specs.Executes.{Leaves};
+ghost use Rattle.site_runner.specs.Sites.{IsReadyOpen, IsReadySlot};
 
-use super::marking::mark;
-use super::slot::{Site, State};
+use super::ending::{Ended, closed};
+use super::marking::tell_epoch;
+use super::slot::Slot;
 use gvn_key::{Bytes, NoMemory};
 use repl_disk::Disk;
-use std::alloc::Global;
+use repl_section::Reign;
+use world_laws::leftovers::leftovers_hold;
 
-/// Brings a site to a closing epoch, and closes it. Answers whether that was done.
+/// Brings an open site to a closing epoch, and closes it.
 pub fn stop<D: Disk>(
-    alloc: Global,
-    disk: &mut D,
-    site: &mut Site,
+    reign: Box<Reign<D>>,
+    name: Bytes,
     text: &mut Bytes,
-) -> Result<bool, NoMemory>
-    requires { IsReadyState (D.disk disk.old) site.old.state }
-    ensures ready { OnOk result (IsReadyState (D.disk disk.new) site.new.state) }
-    ensures done { IfOk result (λ done. ExecutesAt (rows.stop site.old.name) (D.disk disk.old) site.old (D.disk disk.new) site.new text.old text.new done) }
-    ensures cut_off { OnErr result (IsCutAt (rows.stop site.old.name) (D.disk disk.old) site.old (D.disk disk.new)) }
+) -> (Slot<D>, Result<Ended, NoMemory>)
+    requires { IsReadyOpen D.disk reign.value }
+    ensures ready { OnOk result.1 (IsReadySlot D.disk result.0) }
+    ensures left { Leaves D.disk (row_at rows.stop) (Slot.Open reign name) result text.old text.new }
 {
-    let done = mark(alloc, disk, site, true, b"DOWN ", text)?;
-    if done {
-        site.state = State::Down;
-    }
-    Ok(done)
+    leftovers_hold();
+    let reign = Box::into_inner(reign);
+    let length = reign.site.sequence_length();
+    let (disk, taken) = reign.site.close();
+    let ended = tell_epoch(taken, b"DOWN ", length, name.as_slice(), text);
+    closed(disk, name, ended)
 }

@@ -1,29 +1,28 @@
 // ZWRITE.
-ghost use Rattle.std.specs.Prelude.{IfOk};
+ghost use Rattle.std.specs.Prelude.{OnOk};
 ghost use Rattle.std.specs.Option.{option_copied};
+ghost use Rattle.world_defs.specs.Meaning.{row_at};
 ghost use Rattle.world_defs.specs.rows.Zwrite as rows;
-ghost use Rattle.site_runner.specs.Steps.{ExecutesAt};
+ghost use Rattle.site_runner.specs.Executes.{Leaves};
+ghost use Rattle.site_runner.specs.Sites.{IsReadyOpen, IsReadySlot};
 
-use super::answering::refuse;
-use super::slot::{Site, State};
+use super::ending::Ended;
+use super::slot::Slot;
 use gvn_key::{Bytes, Key, NoMemory};
 use repl_disk::Disk;
+use repl_section::Reign;
 
-/// Shows a site's nodes, or one and those below it. Answers whether that was done.
+/// Shows an open site's nodes, or one and those below it.
 pub fn zwrite<D: Disk>(
-    disk: &D,
-    site: &Site,
+    reign: Box<Reign<D>>,
+    name: Bytes,
     top: Option<&Key>,
     text: &mut Bytes,
-) -> Result<bool, NoMemory>
-    ensures { IfOk result (λ done. ExecutesAt (rows.zwrite (option_copied top.entry) site.now.name) (D.disk disk.now) site.now (D.disk disk.now) site.now text.old text.new done) }
+) -> (Slot<D>, Result<Ended, NoMemory>)
+    requires { IsReadyOpen D.disk reign.value }
+    ensures ready { OnOk result.1 (IsReadySlot D.disk result.0) }
+    ensures left { Leaves D.disk (row_at (rows.zwrite (option_copied top.entry))) (Slot.Open reign name) result text.old text.new }
 {
-    if let Some(cause) = site.state.why_not_open() {
-        return refuse(text, site.name.as_slice(), &cause);
-    }
-    let State::Primary(reign) = &site.state else {
-        unreachable!();
-    };
-    reign.site.zwrite(top, text)?;
-    Ok(true)
+    let written = reign.site.zwrite(top, text);
+    (Slot::Open { reign, name }, Ended::Done.after(written))
 }

@@ -39,7 +39,7 @@ use Rattle.site_defs.specs.Limits.{LAST_CYCLE, no_reign_left}
 use Rattle.site_defs.specs.Stands.{texts_of, losts_of, IsSite, HasLeft}
 use Rattle.site_defs.specs.Behind.{IsSiteWith}
 use Rattle.site_store.specs.declared.layout.Layout.{Layout}
-use Rattle.site_store.specs.declared.site.OpenSite.{OpenSite}
+use Rattle.site_store.specs.declared.memory.Memory.{Memory}
 use Rattle.site_store.proofs.HeldRegions.{held_stays, no_instance_file, synced_stays}
 use Rattle.site_store.specs.Finding.{HasLayout}
 use Rattle.region_store.specs.Joined.{joined}
@@ -74,14 +74,14 @@ chosen_none false false h k = refl
 chosen_none true b h k = absurd (cc h)
 chosen_none false true h k = absurd (cc k)
 
-begun_by_now : (c : Contents) (h : ℕ) (s : OpenSite) → Remembers c h s → AllByRecursion (λ (r : Reign). r.start ≤ count_of s) (reigns s.instance.records)
+begun_by_now : (c : Contents) (h : ℕ) (s : Memory) → Remembers c h s → AllByRecursion (λ (r : Reign). r.start ≤ count_of s) (reigns s.instance.records)
     → length (filter (λ (r : Reign). nat_le r.start (length c.sequence)) (reigns c.instance)) ≡ length (reigns s.instance.records)
 begun_by_now c h s is all =
     ap (λ (n : ℕ). length (filter (λ (r : Reign). nat_le r.start n) (reigns c.instance))) (sym (remembered_length c h s is))
     ∙ ap (λ (rs : List InstanceRecord). length (filter (λ (r : Reign). nat_le r.start (count_of s)) (reigns rs))) (sym is.instance)
     ∙ filter_all (count_of s) (reigns s.instance.records) all
 
-pub limit_reached : (c : Contents) (h : ℕ) (s : OpenSite) → Remembers c h s → AllByRecursion (λ (r : Reign). r.start ≤ count_of s) (reigns s.instance.records) → HasNoReignLeft s → no_reign_left c ≡ true
+pub limit_reached : (c : Contents) (h : ℕ) (s : Memory) → Remembers c h s → AllByRecursion (λ (r : Reign). r.start ≤ count_of s) (reigns s.instance.records) → HasNoReignLeft s → no_reign_left c ≡ true
 limit_reached c h s is all none =
     let count = begun_by_now c h s is all in
     let cycles : greatest_cycle s.instance.records ≡ greatest_cycle c.instance = ap greatest_cycle is.instance in
@@ -90,7 +90,7 @@ limit_reached c h s is all none =
       | inr last ↦ inr (grind (arith, nat_tests, cycles, last))
     ])
 
-pub limit_open : (c : Contents) (h : ℕ) (s : OpenSite) → Remembers c h s → AllByRecursion (λ (r : Reign). r.start ≤ count_of s) (reigns s.instance.records) → HasReignLeft s → no_reign_left c ≡ false
+pub limit_open : (c : Contents) (h : ℕ) (s : Memory) → Remembers c h s → AllByRecursion (λ (r : Reign). r.start ≤ count_of s) (reigns s.instance.records) → HasReignLeft s → no_reign_left c ≡ false
 limit_open c h s is all left =
     let count = begun_by_now c h s is all in
     let cycles : greatest_cycle s.instance.records ≡ greatest_cycle c.instance = ap greatest_cycle is.instance in
@@ -100,7 +100,7 @@ limit_open c h s is all left =
     (grind (arith, nat_tests, count, few)) (grind (arith, nat_tests, open_cycle))
 
 -- the reign
-pub next_is : (c : Contents) (h : ℕ) (s : OpenSite) (r : Reign) → Remembers c h s → IsNextReign s r → r ≡ next_reign (site_name c.instance) c
+pub next_is : (c : Contents) (h : ℕ) (s : Memory) (r : Reign) → Remembers c h s → IsNextReign s r → r ≡ next_reign (site_name c.instance) c
 next_is c h s r m is =
     ap (λ (x : List ℕ). record { stamp = record { root = x; cycle = r.stamp.cycle }; start = r.start }) (is.root ∙ ap site_name m.instance)
     ∙ ap (λ (x : ℕ). record { stamp = record { root = site_name c.instance; cycle = x }; start = r.start }) (is.cycle ∙ ap (λ (l : List InstanceRecord). greatest_cycle l + 1) m.instance)
@@ -110,14 +110,14 @@ all_past : (n m : ℕ) (rs : List Reign) → AllByRecursion (λ (q : Reign). q.s
 all_past n m [] all more = tt
 all_past n m (r ∷ rs) all more = (omega (arith, all.0), all_past n m rs all.1 more)
 
-pub past_all : (s : OpenSite) (r : Reign) → AllByRecursion (λ (q : Reign). q.start ≤ count_of s) (reigns s.instance.records) → IsNextReign s r → AllByRecursion (λ (q : Reign). q.start < r.start) (reigns s.instance.records)
+pub past_all : (s : Memory) (r : Reign) → AllByRecursion (λ (q : Reign). q.start ≤ count_of s) (reigns s.instance.records) → IsNextReign s r → AllByRecursion (λ (q : Reign). q.start < r.start) (reigns s.instance.records)
 past_all s r all is = all_past (count_of s) r.start (reigns s.instance.records) all (let e = is.start in omega (arith, e))
 
 stamp_last : (n : ℕ) (rs : List Reign) (r : Reign) → r.start ≤ n → stamp_at n (rs ++ r ∷ []) ≡ Some r.stamp
 stamp_last n [] r le = let yes : nat_le r.start n ≡ true = grind (arith, nat_tests, le) in rw yes refl
 stamp_last n (q ∷ rs) r le = ap (λ (o : Option Stamp). option_or o (if nat_le q.start n then Some q.stamp else None)) (stamp_last n rs r le)
 
-pub has_reign : (old new : OpenSite) (r : Reign) (stamp : code.Stamp) → IsNextReign old r → new.instance.records ≡ old.instance.records ++ Reigned r ∷ [] → new.entries ≡ old.entries → new.stamp ≡ Some stamp → r.stamp ≡ stamp_value stamp → HasReign new
+pub has_reign : (old new : Memory) (r : Reign) (stamp : code.Stamp) → IsNextReign old r → new.instance.records ≡ old.instance.records ++ Reigned r ∷ [] → new.entries ≡ old.entries → new.stamp ≡ Some stamp → r.stamp ≡ stamp_value stamp → HasReign new
 has_reign old new r stamp is records entries told same = record {
   stamp = stamp;
   is = told;
@@ -156,17 +156,17 @@ are_begun d f c s same of =
     by_list (r ∷ rs) made = grind (arith, nat_tests)
 
 -- the records of the images of a site whose entries are all hardened
-sound_now : (v : View) (c : Contents) (s : OpenSite) (k : Keeps v c (length c.sequence) s) (f : Files) → Image v f → IsSoundImage f k.records c.sequence
+sound_now : (v : View) (c : Contents) (s : Memory) (k : Keeps v c (length c.sequence) s) (f : Files) → Image v f → IsSoundImage f k.records c.sequence
 sound_now v c s k f now = subst (IsSoundImage f k.records) (take-length c.sequence) (k.sound f now)
 
-site_now : (v : View) (c : Contents) (s : OpenSite) (k : Keeps v c (length c.sequence) s) (f : Files) → Image v f → IsSite f c
+site_now : (v : View) (c : Contents) (s : Memory) (k : Keeps v c (length c.sequence) s) (f : Files) → Image v f → IsSite f c
 site_now v c s k f now = subst (λ (seq : Sequence). IsSite f (with_sequence c seq)) (take-length c.sequence) (k.images f now)
 
-one_of : (v : View) (c : Contents) (s : OpenSite) (k : Keeps v c (length c.sequence) s) (f : Files) → Image v f → AreOf f c k.records
+one_of : (v : View) (c : Contents) (s : Memory) (k : Keeps v c (length c.sequence) s) (f : Files) → Image v f → AreOf f c k.records
 one_of v c s k f now = are_of f c k.records (site_now v c s k f now) (sound_now v c s k f now).held
 
 -- an image in which the instance file has the reign
-sound_begun : (v : View) (c : Contents) (s : OpenSite) (k : Keeps v c (length c.sequence) s) → AllByRecursion (λ (q : Reign). q.start < length c.sequence + 1) (reigns c.instance) → (d f : Files) → Image v d → SameOutside (Only INSTANCE) d f
+sound_begun : (v : View) (c : Contents) (s : Memory) (k : Keeps v c (length c.sequence) s) → AllByRecursion (λ (q : Reign). q.start < length c.sequence + 1) (reigns c.instance) → (d f : Files) → Image v d → SameOutside (Only INSTANCE) d f
     → IsInstance (f INSTANCE) (c.instance ++ Reigned (reign_of c) ∷ []) → IsSoundImage f (with_record k.records (Reigned (reign_of c))) c.sequence
 sound_begun v c s k past d f was same now =
     let own : k.records.instance ≡ c.instance = k.newest.instance in
@@ -175,13 +175,13 @@ sound_begun v c s k past d f was same now =
     (subst (λ (l : List InstanceRecord). AllByRecursion (λ (q : Reign). q.start < length c.sequence + 1) (reigns l)) (sym own) past) same
     (subst (λ (l : List InstanceRecord). IsInstance (f INSTANCE) (l ++ Reigned (reign_of c) ∷ [])) (sym own) now)
 
-site_begun : (v : View) (c : Contents) (s : OpenSite) (k : Keeps v c (length c.sequence) s) → AllByRecursion (λ (q : Reign). q.start < length c.sequence + 1) (reigns c.instance) → (d f : Files) → Image v d → SameOutside (Only INSTANCE) d f
+site_begun : (v : View) (c : Contents) (s : Memory) (k : Keeps v c (length c.sequence) s) → AllByRecursion (λ (q : Reign). q.start < length c.sequence + 1) (reigns c.instance) → (d f : Files) → Image v d → SameOutside (Only INSTANCE) d f
     → IsInstance (f INSTANCE) (c.instance ++ Reigned (reign_of c) ∷ []) → IsSite f (begun c)
 site_begun v c s k past d f was same now =
     site_of f (begun c) (with_record k.records (Reigned (reign_of c))) (are_begun d f c k.records same (one_of v c s k d was)) (sound_begun v c s k past d f was same now)
 
 -- at each moment
-pub reign_left : (v w : View) (c : Contents) (s : OpenSite) → Keeps v c (length c.sequence) s → AllByRecursion (λ (q : Reign). q.start < length c.sequence + 1) (reigns c.instance)
+pub reign_left : (v w : View) (c : Contents) (s : Memory) → Keeps v c (length c.sequence) s → AllByRecursion (λ (q : Reign). q.start < length c.sequence + 1) (reigns c.instance)
     → AtEachMoment v w (OnlyOn v INSTANCE (instances.StandsWith c.instance (Reigned (reign_of c)))) → AtEachMoment v w (λ f. IsSiteWith f (bare c) ⊎ IsSiteWith f (bare (begun c)))
 reign_left v w c s k past run = weaker v w (OnlyOn v INSTANCE (instances.StandsWith c.instance (Reigned (reign_of c)))) (λ f. IsSiteWith f (bare c) ⊎ IsSiteWith f (bare (begun c))) (λ f q. elim q.here [
   | inl same ↦
@@ -215,7 +215,7 @@ none_waiting a g n (p ∷ ps) [] none h = absurd h
 none_waiting a g n ps (e ∷ es) none h = absurd (cc none)
 
 -- the journals' files aren't the instance file
-journals_away : (v : View) (s : OpenSite) → IsReady v s → frames.AreAway (Only INSTANCE) s.journals.journals.items
+journals_away : (v : View) (s : Memory) → IsReady v s → frames.AreAway (Only INSTANCE) s.journals.journals.items
 journals_away v s ready r x is e = let file = (ready.journals.each r x is).of.file in absurd (omega (arith, file, e))
 
 layout_begun : (rs : List InstanceRecord) (x : Reign) (l : Layout) → 0 < length rs → HasLayout rs l → HasLayout (rs ++ Reigned x ∷ []) l
@@ -227,12 +227,12 @@ layout_begun rs x l some is = record {
 }
 
 -- while the instance file alone changes
-held_beside : (v w : View) (old new : OpenSite) → IsReady v old → OthersStay (Only INSTANCE) v w → new.globals ≡ old.globals → AreHeld w (length (regions old.instance.records)) new.globals
+held_beside : (v w : View) (old new : Memory) → IsReady v old → OthersStay (Only INSTANCE) v w → new.globals ≡ old.globals → AreHeld w (length (regions old.instance.records)) new.globals
 held_beside v w old new ready stays globals =
     let many = length (regions old.instance.records) in
     subst (AreHeld w many) (sym globals) (held_stays v w (Only INSTANCE) many old.globals stays (no_instance_file many) ready.regions)
 
-pub ready_begun : (v w : View) (old new : OpenSite) (x : Reign) → IsReady v old → 0 < length old.instance.records → instances.IsReady w new.instance → new.instance.records ≡ old.instance.records ++ Reigned x ∷ [] → new.journals ≡ old.journals → new.layout ≡ old.layout
+pub ready_begun : (v w : View) (old new : Memory) (x : Reign) → IsReady v old → 0 < length old.instance.records → instances.IsReady w new.instance → new.instance.records ≡ old.instance.records ++ Reigned x ∷ [] → new.journals ≡ old.journals → new.layout ≡ old.layout
     → OthersStay (Only INSTANCE) v w → new.globals ≡ old.globals → new.entries ≡ old.entries → IsReady w new
 ready_begun v w old new x ready some instance records journals layout stays globals entries = record {
   instance = instance;
@@ -255,7 +255,7 @@ instance_in w i rs has f now = among w.content has
     among None h = absurd h
     among (Some a) h = h.stands f now
 
-module _ (v w : View) (c : Contents) (old new : OpenSite) (k : Keeps v c (length c.sequence) old) (past : AllByRecursion (λ (q : Reign). q.start < length c.sequence + 1) (reigns c.instance)) (lawful : IsLawful w) (stays : OthersStay (Only INSTANCE) v w)
+module _ (v w : View) (c : Contents) (old new : Memory) (k : Keeps v c (length c.sequence) old) (past : AllByRecursion (λ (q : Reign). q.start < length c.sequence + 1) (reigns c.instance)) (lawful : IsLawful w) (stays : OthersStay (Only INSTANCE) v w)
     (away : frames.AreAway (Only INSTANCE) old.journals.journals.items) (created : 0 < length c.instance) (has : instances.HasRecords w new.instance (c.instance ++ Reigned (reign_of c) ∷ [])) (journals : new.journals ≡ old.journals) (entries : new.entries ≡ old.entries) (globals : new.globals ≡ old.globals) where
   now_begun : (f : Files) → Image w f → IsInstance (f INSTANCE) (c.instance ++ Reigned (reign_of c) ∷ [])
   now_begun f now = instance_in w new.instance (c.instance ++ Reigned (reign_of c) ∷ []) has f now
@@ -343,13 +343,13 @@ module _ (v w : View) (c : Contents) (old new : OpenSite) (k : Keeps v c (length
         (frames.journals_keep v w (Only INSTANCE) old.journals.journals.items stays away k.newer k.waits k.journal_files);
   }
 
-pub past_in : (c : Contents) (h : ℕ) (s : OpenSite) → Remembers c h s → AllByRecursion (λ (q : Reign). q.start ≤ count_of s) (reigns s.instance.records) → AllByRecursion (λ (q : Reign). q.start < length c.sequence + 1) (reigns c.instance)
+pub past_in : (c : Contents) (h : ℕ) (s : Memory) → Remembers c h s → AllByRecursion (λ (q : Reign). q.start ≤ count_of s) (reigns s.instance.records) → AllByRecursion (λ (q : Reign). q.start < length c.sequence + 1) (reigns c.instance)
 past_in c h s is all =
     let count = remembered_length c h s is in
     subst (λ (l : List InstanceRecord). AllByRecursion (λ (q : Reign). q.start < length c.sequence + 1) (reigns l)) is.instance (all_past (count_of s) (length c.sequence + 1) (reigns s.instance.records) all (omega (arith, count)))
 
 -- nothing was written: all stands as before
-pub ready_kept : (v w : View) (old new : OpenSite) → IsReady v old → instances.IsReady w new.instance → new.instance.records ≡ old.instance.records → new.journals ≡ old.journals → new.layout ≡ old.layout → OthersStay (Only INSTANCE) v w
+pub ready_kept : (v w : View) (old new : Memory) → IsReady v old → instances.IsReady w new.instance → new.instance.records ≡ old.instance.records → new.journals ≡ old.journals → new.layout ≡ old.layout → OthersStay (Only INSTANCE) v w
     → new.globals ≡ old.globals → new.entries ≡ old.entries → IsReady w new
 ready_kept v w old new ready instance records journals layout stays globals entries = record {
   instance = instance;
@@ -365,7 +365,7 @@ ready_kept v w old new ready instance records journals layout stays globals entr
   each_place = ap (λ (i : EntryIndex). i.regions) entries ∙ ready.each_place ∙ sym (ap (λ (rs : List InstanceRecord). length (regions rs)) records);
 }
 
-pub opened_kept : (old new : OpenSite) → WasOpened old → new.instance.records ≡ old.instance.records → new.entries ≡ old.entries → new.hardened ≡ old.hardened → new.stamp ≡ old.stamp → WasOpened new
+pub opened_kept : (old new : Memory) → WasOpened old → new.instance.records ≡ old.instance.records → new.entries ≡ old.entries → new.hardened ≡ old.hardened → new.stamp ≡ old.stamp → WasOpened new
 opened_kept old new was records entries hardened stamp = record {
   created = subst (λ (rs : List InstanceRecord). 0 < length rs) (sym records) was.created;
   name = subst (λ (rs : List InstanceRecord). IsSiteName (site_name rs)) (sym records) was.name;
@@ -376,7 +376,7 @@ opened_kept old new was records entries hardened stamp = record {
   no_reign = stamp ∙ was.no_reign;
 }
 
-pub open_kept : (v w : View) (told : Bool) (c : Contents) (h : ℕ) (old new : OpenSite) → IsLawful w → IsReady v old → OthersStay (Only INSTANCE) v w → AtEachMoment v w (Image v)
+pub open_kept : (v w : View) (told : Bool) (c : Contents) (h : ℕ) (old new : Memory) → IsLawful w → IsReady v old → OthersStay (Only INSTANCE) v w → AtEachMoment v w (Image v)
     → ((rs : List InstanceRecord) → instances.HasRecords v old.instance rs → instances.HasRecords w new.instance rs) → new.instance.records ≡ old.instance.records → new.entries ≡ old.entries → new.globals ≡ old.globals → new.hardened ≡ old.hardened → new.journals ≡ old.journals
     → IsOpen v told c h old → IsOpen w told c h new
 open_kept v w told c h old new lawful ready stays unwritten state records entries changed hardened journals is = record {
@@ -422,7 +422,7 @@ open_kept v w told c h old new lawful ready stays unwritten state records entrie
 }
 
 -- what beginning the reign r has done
-pub record Begins (v w : View) (old new : OpenSite) (r : Reign) : Type 0 where
+pub record Begins (v w : View) (old new : Memory) (r : Reign) : Type 0 where
   pub ready : IsReady v old
   pub created : 0 < length old.instance.records
   pub past : AllByRecursion (λ (q : Reign). q.start ≤ count_of old) (reigns old.instance.records)
@@ -431,7 +431,7 @@ pub record Begins (v w : View) (old new : OpenSite) (r : Reign) : Type 0 where
   pub state : (rs : List InstanceRecord) → instances.HasRecords v old.instance rs → instances.HasRecords w new.instance (rs ++ Reigned r ∷ [])
   pub records : new.instance.records ≡ old.instance.records ++ Reigned r ∷ []
 
-pub open_begun : (v w : View) (told : Bool) (c : Contents) (old new : OpenSite) (r : Reign) → IsLawful w → Begins v w old new r → new.entries ≡ old.entries → new.globals ≡ old.globals → new.hardened ≡ old.hardened → new.journals ≡ old.journals
+pub open_begun : (v w : View) (told : Bool) (c : Contents) (old new : Memory) (r : Reign) → IsLawful w → Begins v w old new r → new.entries ≡ old.entries → new.globals ≡ old.globals → new.hardened ≡ old.hardened → new.journals ≡ old.journals
     → IsOpen v told c (length c.sequence) old → IsOpen w told (begun c) (length c.sequence) new
 open_begun v w told c old new r lawful b entries changed hardened journals is =
     let same = next_is c (length c.sequence) old r is.remembered b.next in
@@ -449,7 +449,7 @@ open_begun v w told c old new r lawful b entries changed hardened journals is =
     }
 
 -- at each moment of it
-pub left_begun : (v w : View) (c : Contents) (old : OpenSite) (r : Reign) → AllByRecursion (λ (q : Reign). q.start ≤ count_of old) (reigns old.instance.records) → IsNextReign old r
+pub left_begun : (v w : View) (c : Contents) (old : Memory) (r : Reign) → AllByRecursion (λ (q : Reign). q.start ≤ count_of old) (reigns old.instance.records) → IsNextReign old r
     → ((rs : List InstanceRecord) → instances.HasRecords v old.instance rs → AtEachMoment v w (OnlyOn v INSTANCE (instances.StandsWith rs (Reigned r))))
     → IsOpen v true c (length c.sequence) old → AtEachMoment v w (λ f. IsSiteWith f (bare c) ⊎ IsSiteWith f (bare (begun c)))
 left_begun v w c old r past next run is =
@@ -458,7 +458,7 @@ left_begun v w c old r past next run is =
     reign_left v w c old k (past_in c (length c.sequence) old is.remembered past)
     (subst (λ (x : Reign). AtEachMoment v w (OnlyOn v INSTANCE (instances.StandsWith c.instance (Reigned x)))) same (run c.instance k.instance_file))
 
-pub moments_begun : (v w : View) (c : Contents) (old : OpenSite) (r : Reign) → AllByRecursion (λ (q : Reign). q.start ≤ count_of old) (reigns old.instance.records) → IsNextReign old r
+pub moments_begun : (v w : View) (c : Contents) (old : Memory) (r : Reign) → AllByRecursion (λ (q : Reign). q.start ≤ count_of old) (reigns old.instance.records) → IsNextReign old r
     → ((rs : List InstanceRecord) → instances.HasRecords v old.instance rs → AtEachMoment v w (OnlyOn v INSTANCE (instances.StandsWith rs (Reigned r))))
     → IsOpen v true c (length c.sequence) old → AtEachMoment v w (λ f. IsSite f c ⊎ IsSite f (begun c))
 moments_begun v w c old r past next run is = weaker v w (λ f. IsSiteWith f (bare c) ⊎ IsSiteWith f (bare (begun c))) (λ f. IsSite f c ⊎ IsSite f (begun c)) (λ f q. elim q [
@@ -470,11 +470,11 @@ pub stands_begun : (v w : View) (c : Contents) → IsLawful w → AtEachMoment v
 stands_begun v w c lawful run = reads_of w (λ f. IsSite f c ⊎ IsSite f (begun c)) lawful (holds_now v w (λ f. IsSite f c ⊎ IsSite f (begun c)) lawful run)
 
 -- before it
-pub quiet_left : (v : View) (c : Contents) (old : OpenSite) → IsOpen v true c (length c.sequence) old → AtEachMoment v v (λ f. IsSiteWith f (bare c) ⊎ IsSiteWith f (bare (begun c)))
+pub quiet_left : (v : View) (c : Contents) (old : Memory) → IsOpen v true c (length c.sequence) old → AtEachMoment v v (λ f. IsSiteWith f (bare c) ⊎ IsSiteWith f (bare (begun c)))
 quiet_left v c old is = started v (λ f. IsSiteWith f (bare c) ⊎ IsSiteWith f (bare (begun c))) (λ f now. inl (record {
   site = images_stand v c old is f now;
   left = subst (λ (seq : Sequence). HasLeft f (with_sequence c seq) NO_LEFTOVER) (take-length c.sequence) (none_left v c (length c.sequence) old f (is.kept refl) now);
 }))
 
-pub quiet : (v : View) (c : Contents) (old : OpenSite) → IsOpen v true c (length c.sequence) old → AtEachMoment v v (λ f. IsSite f c ⊎ IsSite f (begun c))
+pub quiet : (v : View) (c : Contents) (old : Memory) → IsOpen v true c (length c.sequence) old → AtEachMoment v v (λ f. IsSite f c ⊎ IsSite f (begun c))
 quiet v c old is = started v (λ f. IsSite f c ⊎ IsSite f (begun c)) (λ f now. inl (images_stand v c old is f now))

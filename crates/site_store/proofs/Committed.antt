@@ -46,7 +46,7 @@ use Rattle.site_defs.specs.Contents.{Contents, NO_LEFTOVER}
 use Rattle.site_defs.specs.Behind.{parts_of_each}
 use Rattle.site_defs.specs.Fronts.{with_sequence}
 use Rattle.site_defs.specs.Stands.{IsSite, HasLeft}
-use Rattle.site_store.specs.declared.site.OpenSite.{OpenSite}
+use Rattle.site_store.specs.declared.memory.Memory.{Memory}
 use Rattle.site_store.specs.Finding.{HasLayout}
 use Rattle.region_store.specs.Joined.{joined, AreChanged}
 use Rattle.site_store.specs.Site.{Remembers, IsReady, AreHeld, Keeps, IsOpen, HasReign, HasRoomFor, AreOnBlocks, with_entry, count_of}
@@ -69,7 +69,7 @@ use Rattle.site_store.proofs.Parts.{parts_more}
 use Rattle.entry_index.specs.Found.{IsWhole}
 
 -- the parts that were appended are those of the transaction
-pub parts_appended : (v : View) (s : OpenSite) (t : Transaction) (parts : PartRecords) (before js : List RegionJournal) (hard waiting : ℕ → List JournalRecord) → length js ≡ length before → length before ≤ 8
+pub parts_appended : (v : View) (s : Memory) (t : Transaction) (parts : PartRecords) (before js : List RegionJournal) (hard waiting : ℕ → List JournalRecord) → length js ≡ length before → length before ≤ 8
     → ArePartsOf s t parts → KeepsJournals v hard (λ r. waiting r ++ listed (part_in parts r)) js → KeepsJournals v hard (λ r. waiting r ++ listed (recorded (parts_of s t r))) js
 parts_appended v s t parts before js hard waiting many few are keeps = record {
   has = λ r x there. subst (λ (o : Option JournalRecord). journals.HasRecords v x.journal (record { hard = hard r; opening = []; closed = waiting r ++ listed o })) (is r x there) (keeps.has r x there);
@@ -84,7 +84,7 @@ pub no_instance : (g n : ℕ) → IsNewestFile g n INSTANCE → ⊥
 no_instance g n i = absurd (omega (arith, i.is))
 
 -- What preparing an entry leaves: no image is new, and of the site only its journals have more room.
-pub record Prepares (v w : View) (old mid : OpenSite) : Type 0 where
+pub record Prepares (v w : View) (old mid : Memory) : Type 0 where
   pub ready : IsReady v old
   pub ready_after : IsReady w mid
   pub state : (hard waiting : ℕ → List JournalRecord) → KeepsJournals v hard waiting old.journals.journals.items → KeepsJournals w hard waiting mid.journals.journals.items
@@ -95,10 +95,10 @@ pub record Prepares (v w : View) (old mid : OpenSite) : Type 0 where
   pub stays : OthersStay (IsOwnJournal old) v w
 
 -- a prepared site with the places that it had before
-abbrev pub with_places : OpenSite → OpenSite → OpenSite
+abbrev pub with_places : Memory → Memory → Memory
 with_places old mid = record { instance = mid.instance; layout = mid.layout; journals = mid.journals; entries = old.entries; globals = mid.globals; hardened = mid.hardened; stamp = mid.stamp }
 
-ready_before : (v w : View) (old mid : OpenSite) → IsReady v old → IsReady w mid → mid.instance ≡ old.instance → IsReady w (with_places old mid)
+ready_before : (v w : View) (old mid : Memory) → IsReady v old → IsReady w mid → mid.instance ≡ old.instance → IsReady w (with_places old mid)
 ready_before v w old mid before ready same = record {
   instance = ready.instance;
   layout = ready.layout;
@@ -111,7 +111,7 @@ ready_before v w old mid before ready same = record {
   each_place = before.each_place ∙ ap (λ (i : Instance). length (regions i.records)) (sym same);
 }
 
-pub prepares_of : (v w : View) (old mid : OpenSite) → IsReady v old → IsReady w mid
+pub prepares_of : (v w : View) (old mid : Memory) → IsReady v old → IsReady w mid
     → ((hard waiting : ℕ → List JournalRecord) → KeepsJournals v hard waiting old.journals.journals.items → KeepsJournals w hard waiting mid.journals.journals.items)
     → IsSameSite old mid → AreChanged old.globals mid.globals → AtEachMoment v w (Image v) → OthersStay (IsOwnJournal old) v w → Prepares v w old (with_places old mid)
 prepares_of v w old mid before ready state same changed moments stays = record {
@@ -125,14 +125,14 @@ prepares_of v w old mid before ready state same changed moments stays = record {
   stays = stays;
 }
 
-pub keeps_prepared : (v w : View) (c : Contents) (h : ℕ) (old mid : OpenSite) → Prepares v w old mid → IsLawful w → Keeps v c h old → Keeps w c h mid
+pub keeps_prepared : (v w : View) (c : Contents) (h : ℕ) (old mid : Memory) → Prepares v w old mid → IsLawful w → Keeps v c h old → Keeps w c h mid
 keeps_prepared v w c h old mid p lawful k =
     keeps_images v w c h old mid k lawful (still v w (IsOwnJournal old) p.stays (told_of v c h old k)) (λ f now. holds_now v w (Image v) lawful p.moments f now)
     (subst (λ (i : Instance). instances.HasRecords w i c.instance) (sym p.same.instance)
     (frames.records_stay v w (IsOwnJournal old) old.instance p.stays (no_instance (generation old.instance.records) (length (regions old.instance.records))) c.instance k.instance_file))
     (p.state k.newer k.waits k.journal_files) p.changed p.entries
 
-pub open_prepared : (v w : View) (told : Bool) (c : Contents) (h : ℕ) (old mid : OpenSite) → Prepares v w old mid → IsSameMemory old mid → IsLawful w → IsOpen v told c h old → IsOpen w told c h mid
+pub open_prepared : (v w : View) (told : Bool) (c : Contents) (h : ℕ) (old mid : Memory) → Prepares v w old mid → IsSameMemory old mid → IsLawful w → IsOpen v told c h old → IsOpen w told c h mid
 open_prepared v w told c h old mid p same lawful is = record {
   remembered = record {
     instance = ap (λ (i : Instance). i.records) same.same.instance ∙ is.remembered.instance;
@@ -143,29 +143,29 @@ open_prepared v w told c h old mid p same lawful is = record {
   kept = λ known. keeps_prepared v w c h old mid p lawful (is.kept known);
 }
 
-prepare_moments : (v w : View) (c : Contents) (h : ℕ) (old : OpenSite) → AtEachMoment v w (Image v) → IsOpen v true c h old → AtEachMoment v w (λ f. IsSite f (with_sequence c (take h c.sequence)))
+prepare_moments : (v w : View) (c : Contents) (h : ℕ) (old : Memory) → AtEachMoment v w (Image v) → IsOpen v true c h old → AtEachMoment v w (λ f. IsSite f (with_sequence c (take h c.sequence)))
 prepare_moments v w c h old run is = weaker v w (Image v) (λ f. IsSite f (with_sequence c (take h c.sequence))) (λ f was. (is.kept refl).images f was) run
 
 -- each moment of an append to these journals
 abbrev pub AppendMoments : View → View → List RegionJournal → Type 0
 AppendMoments w x js = (g : ℕ) (hard waiting : ℕ → List JournalRecord) → AreReady w g js → KeepsJournals w hard waiting js → AtEachMoment w x (OnlyIn w (IsNewestFile g (length js)) (HasFirst g (length js) hard waiting (λ r. 0)))
 
-own_records : (v w : View) (c : Contents) (h : ℕ) (old mid : OpenSite) → Prepares v w old mid → Remembers c h old → mid.instance.records ≡ c.instance
+own_records : (v w : View) (c : Contents) (h : ℕ) (old mid : Memory) → Prepares v w old mid → Remembers c h old → mid.instance.records ≡ c.instance
 own_records v w c h old mid p m = ap (λ (i : Instance). i.records) p.same.instance ∙ m.instance
 
-pub append_run : (w x : View) (c : Contents) (h : ℕ) (mid : OpenSite) (k : Keeps w c h mid) → IsReady w mid → mid.instance.records ≡ c.instance → AppendMoments w x mid.journals.journals.items
+pub append_run : (w x : View) (c : Contents) (h : ℕ) (mid : Memory) (k : Keeps w c h mid) → IsReady w mid → mid.instance.records ≡ c.instance → AppendMoments w x mid.journals.journals.items
     → AtEachMoment w x (OnlyIn w (IsNewestFile (suc k.g) (length (regions c.instance))) (HasFirst (suc k.g) (length (regions c.instance)) k.newer k.waits (λ r. 0)))
 append_run w x c h mid k ready own run =
     subst (λ (n : ℕ). AtEachMoment w x (OnlyIn w (IsNewestFile (suc k.g) n) (HasFirst (suc k.g) n k.newer k.waits (λ r. 0)))) (newest.count w c h mid k ready own)
     (run (suc k.g) k.newer k.waits (newest.are_ready w c h mid k ready own) k.journal_files)
 
-pub append_moments : (w x : View) (c : Contents) (h : ℕ) (mid : OpenSite) → Keeps w c h mid → IsReady w mid → mid.instance.records ≡ c.instance → AppendMoments w x mid.journals.journals.items → AtEachMoment w x (λ f. IsSite f (with_sequence c (take h c.sequence)))
+pub append_moments : (w x : View) (c : Contents) (h : ℕ) (mid : Memory) → Keeps w c h mid → IsReady w mid → mid.instance.records ≡ c.instance → AppendMoments w x mid.journals.journals.items → AtEachMoment w x (λ f. IsSite f (with_sequence c (take h c.sequence)))
 append_moments w x c h mid k ready own run =
     weaker w x (OnlyIn w (IsNewestFile (suc k.g) (length (regions c.instance))) (HasFirst (suc k.g) (length (regions c.instance)) k.newer k.waits (λ r. 0))) (λ f. IsSite f (with_sequence c (take h c.sequence)))
     (λ f q. newest.none_site w c h mid k ready own q.others.0 f q.others.1 q.others.2 q.here) (append_run w x c h mid k ready own run)
 
 -- through both
-pub commit_moments : (v w x : View) (c : Contents) (h : ℕ) (old mid : OpenSite) → IsLawful w → Prepares v w old mid → AppendMoments w x mid.journals.journals.items → IsOpen v true c h old → AtEachMoment v x (λ f. IsSite f (with_sequence c (take h c.sequence)))
+pub commit_moments : (v w x : View) (c : Contents) (h : ℕ) (old mid : Memory) → IsLawful w → Prepares v w old mid → AppendMoments w x mid.journals.journals.items → IsOpen v true c h old → AtEachMoment v x (λ f. IsSite f (with_sequence c (take h c.sequence)))
 commit_moments v w x c h old mid lawful p run is =
     then_more v w x (λ f. IsSite f (with_sequence c (take h c.sequence))) (λ f. IsSite f (with_sequence c (take h c.sequence))) (prepare_moments v w c h old p.moments is)
     (append_moments w x c h mid (keeps_prepared v w c h old mid p lawful (is.kept refl)) p.ready_after (own_records v w c h old mid p is.remembered) run) (λ f q. q)
@@ -174,23 +174,23 @@ commit_moments v w x c h old mid lawful p run is =
 abbrev IsBare : Contents → ℕ → Files → Type 0
 IsBare c h f = HasLeft f (with_sequence c (take h c.sequence)) NO_LEFTOVER
 
-pub prepare_bare : (v w : View) (c : Contents) (h : ℕ) (old : OpenSite) → AtEachMoment v w (Image v) → IsOpen v true c h old → AtEachMoment v w (IsBare c h)
+pub prepare_bare : (v w : View) (c : Contents) (h : ℕ) (old : Memory) → AtEachMoment v w (Image v) → IsOpen v true c h old → AtEachMoment v w (IsBare c h)
 prepare_bare v w c h old run is = weaker v w (Image v) (IsBare c h) (λ f was. none_left v c h old f (is.kept refl) was) run
 
-pub append_bare : (w x : View) (c : Contents) (h : ℕ) (mid : OpenSite) → Keeps w c h mid → IsReady w mid → mid.instance.records ≡ c.instance → AppendMoments w x mid.journals.journals.items → AtEachMoment w x (IsBare c h)
+pub append_bare : (w x : View) (c : Contents) (h : ℕ) (mid : Memory) → Keeps w c h mid → IsReady w mid → mid.instance.records ≡ c.instance → AppendMoments w x mid.journals.journals.items → AtEachMoment w x (IsBare c h)
 append_bare w x c h mid k ready own run =
     weaker w x (OnlyIn w (IsNewestFile (suc k.g) (length (regions c.instance))) (HasFirst (suc k.g) (length (regions c.instance)) k.newer k.waits (λ r. 0))) (IsBare c h)
     (λ f q. newest.none_behind w c h mid k ready own q.others.0 f q.others.1 q.others.2 q.here) (append_run w x c h mid k ready own run)
 
-pub commit_bare : (v w x : View) (c : Contents) (h : ℕ) (old mid : OpenSite) → IsLawful w → Prepares v w old mid → AppendMoments w x mid.journals.journals.items → IsOpen v true c h old → AtEachMoment v x (IsBare c h)
+pub commit_bare : (v w x : View) (c : Contents) (h : ℕ) (old mid : Memory) → IsLawful w → Prepares v w old mid → AppendMoments w x mid.journals.journals.items → IsOpen v true c h old → AtEachMoment v x (IsBare c h)
 commit_bare v w x c h old mid lawful p run is =
     then_more v w x (IsBare c h) (IsBare c h) (prepare_bare v w c h old p.moments is)
     (append_bare w x c h mid (keeps_prepared v w c h old mid p lawful (is.kept refl)) p.ready_after (own_records v w c h old mid p is.remembered) run) (λ f q. q)
 
-pub quiet_bare : (v : View) (c : Contents) (h : ℕ) (old : OpenSite) → IsOpen v true c h old → AtEachMoment v v (IsBare c h)
+pub quiet_bare : (v : View) (c : Contents) (h : ℕ) (old : Memory) → IsOpen v true c h old → AtEachMoment v v (IsBare c h)
 quiet_bare v c h old is = started v (IsBare c h) (λ f now. none_left v c h old f (is.kept refl) now)
 
-pub site_moments : (v w : View) (c : Contents) (h : ℕ) (old : OpenSite) → AtEachMoment v w (Image v) → IsOpen v true c h old → AtEachMoment v w (λ f. IsSite f (with_sequence c (take h c.sequence)))
+pub site_moments : (v w : View) (c : Contents) (h : ℕ) (old : Memory) → AtEachMoment v w (Image v) → IsOpen v true c h old → AtEachMoment v w (λ f. IsSite f (with_sequence c (take h c.sequence)))
 site_moments v w c h old run is = prepare_moments v w c h old run is
 
 pub commit_stands : (v x : View) (c : Contents) (h : ℕ) → IsLawful x → AtEachMoment v x (λ f. IsSite f (with_sequence c (take h c.sequence))) → IfSome x.content (λ f. IsSite f (with_sequence c (take h c.sequence)))
@@ -213,7 +213,7 @@ few_longer seq e few room k = subst (λ (l : List Update). globals.len (fold app
     all = flat_map-append (λ (d : Entry). d.transaction.updates) seq (e ∷ []) ∙ ap (λ (l : List Update). us ++ l) (append-nil e.transaction.updates)
 
 -- What has been done to a site that has one entry more.
-pub record Committed (v w x : View) (old mid new : OpenSite) (t : code.Transaction) (parts : PartRecords) : Type 0 where
+pub record Committed (v w x : View) (old mid new : Memory) (t : code.Transaction) (parts : PartRecords) : Type 0 where
   pub prepares : Prepares v w old mid
   pub stamp : code_stamp.Stamp
   pub under : old.stamp ≡ Some stamp
@@ -239,10 +239,10 @@ abbrev longer : Contents → Entry → Contents
 longer c e = with_sequence c (c.sequence ++ e ∷ [])
 
 -- its number, and its stamp
-number_of : (c : Contents) (h : ℕ) (s : OpenSite) → Remembers c h s → h ≤ length c.sequence → count_of s + 1 ≡ h + length (drop h c.sequence) + 1
+number_of : (c : Contents) (h : ℕ) (s : Memory) → Remembers c h s → h ≤ length c.sequence → count_of s + 1 ≡ h + length (drop h c.sequence) + 1
 number_of c h s m low = let count = remembered_length c h s m in let rest = length-drop h c.sequence in omega (arith, count, rest, low)
 
-stamp_of : (c : Contents) (h : ℕ) (s : OpenSite) (stamp : code_stamp.Stamp) → Remembers c h s → HasReign s → s.stamp ≡ Some stamp → stamp_at (count_of s + 1) (reigns c.instance) ≡ Some (stamp_value stamp)
+stamp_of : (c : Contents) (h : ℕ) (s : Memory) (stamp : code_stamp.Stamp) → Remembers c h s → HasReign s → s.stamp ≡ Some stamp → stamp_at (count_of s + 1) (reigns c.instance) ≡ Some (stamp_value stamp)
 stamp_of c h s stamp m reign is =
     let told : s.stamp ≡ Some reign.stamp = reign.is in
     let same : reign.stamp ≡ stamp = cc (told, is) in
@@ -250,10 +250,10 @@ stamp_of c h s stamp m reign is =
     (reign.covers (count_of s + 1) (omega arith) ∙ ap (λ (y : code_stamp.Stamp). Some (stamp_value y)) same)
 
 -- the entry
-abbrev entry_of : {v w x : View} {old mid new : OpenSite} {t : code.Transaction} {parts : PartRecords} → Committed v w x old mid new t parts → Entry
+abbrev entry_of : {v w x : View} {old mid new : Memory} {t : code.Transaction} {parts : PartRecords} → Committed v w x old mid new t parts → Entry
 entry_of {t = t} p = entry_for p.stamp t
 
-remembers_longer : (v w x : View) (c : Contents) (h : ℕ) (old mid new : OpenSite) (t : code.Transaction) (parts : PartRecords) (p : Committed v w x old mid new t parts) → Remembers c h old → Remembers (longer c (entry_of p)) h new
+remembers_longer : (v w x : View) (c : Contents) (h : ℕ) (old mid new : Memory) (t : code.Transaction) (parts : PartRecords) (p : Committed v w x old mid new t parts) → Remembers c h old → Remembers (longer c (entry_of p)) h new
 remembers_longer v w x c h old mid new t parts p m =
     record {
       instance = ap (λ (i : Instance). i.records) (p.instance ∙ p.prepares.same.instance) ∙ m.instance;
@@ -264,22 +264,22 @@ remembers_longer v w x c h old mid new t parts p m =
     }
 
 -- its directory is that of the instance file
-directory_of : (v : View) (c : Contents) (h : ℕ) (s : OpenSite) → IsReady v s → Remembers c h s → s.layout.directory.patterns ≡ patterns c.instance
+directory_of : (v : View) (c : Contents) (h : ℕ) (s : Memory) → IsReady v s → Remembers c h s → s.layout.directory.patterns ≡ patterns c.instance
 directory_of v c h s ready m = ap (λ (d : Mapping). d.patterns) ready.layout.directory ∙ ap patterns m.instance
 
 -- the parts by the patterns of the contents
 abbrev region_in : Contents → Update → ℕ
 region_in c = region_of_update (patterns c.instance)
 
-abbrev own_parts : Contents → OpenSite → Transaction → ℕ → Option Part
+abbrev own_parts : Contents → Memory → Transaction → ℕ → Option Part
 own_parts c s t = split (region_in c) (count_of s + 1) (mask_of (region_in c) t.updates) t
 
-record AreOwn (c : Contents) (s : OpenSite) (t : Transaction) (parts : PartRecords) : Type 0 where
+record AreOwn (c : Contents) (s : Memory) (t : Transaction) (parts : PartRecords) : Type 0 where
   each : (r : ℕ) → r < 8 → part_in parts r ≡ recorded (own_parts c s t r)
   is_split : IsSplit (region_in c) (mask_of (region_in c) t.updates) t
   no_other : (r : ℕ) → length (regions c.instance) ≤ r → own_parts c s t r ≡ None
 
-are_own : (v : View) (c : Contents) (h : ℕ) (s : OpenSite) (t : Transaction) (parts : PartRecords) → IsReady v s → Remembers c h s → ArePartsOf s t parts → AreOwn c s t parts
+are_own : (v : View) (c : Contents) (h : ℕ) (s : Memory) (t : Transaction) (parts : PartRecords) → IsReady v s → Remembers c h s → ArePartsOf s t parts → AreOwn c s t parts
 are_own v c h s t parts ready m are =
     let same = directory_of v c h s ready m in
     let count : s.layout.directory.regions ≡ length (regions c.instance) = ap (λ (d : Mapping). d.regions) ready.layout.directory ∙ ap (λ (l : List InstanceRecord). length (regions l)) m.instance in
@@ -300,11 +300,11 @@ waits_longer x hard waits part parts js few each kept = record {
     more : (r : ℕ) (y : RegionJournal) → slice_get js r ≡ Some y → waits r ++ listed (recorded (part r)) ≡ waits r ++ listed (part_in parts r)
     more r y is = ap (λ (o : Option JournalRecord). waits r ++ listed o) (sym (each r (let there = slice_get_within js r y is in omega (arith, there, few))))
 
-pub instance_kept : (w x : View) (mid new : OpenSite) (g n : ℕ) (rs : List InstanceRecord) → OthersStay (IsNewestFile g n) w x → new.instance ≡ mid.instance → instances.HasRecords w mid.instance rs → instances.HasRecords x new.instance rs
+pub instance_kept : (w x : View) (mid new : Memory) (g n : ℕ) (rs : List InstanceRecord) → OthersStay (IsNewestFile g n) w x → new.instance ≡ mid.instance → instances.HasRecords w mid.instance rs → instances.HasRecords x new.instance rs
 instance_kept w x mid new g n rs stays same has =
     subst (λ (i : Instance). instances.HasRecords x i rs) (sym same) (frames.records_stay w x (IsNewestFile g n) mid.instance stays (no_instance g n) rs has)
 
-keeps_longer : (v w x : View) (c : Contents) (h : ℕ) (old mid new : OpenSite) (t : code.Transaction) (parts : PartRecords) (p : Committed v w x old mid new t parts) → Keeps v c h old → Remembers c h old → IsLawful w → IsLawful x → Keeps x (longer c (entry_of p)) h new
+keeps_longer : (v w x : View) (c : Contents) (h : ℕ) (old mid new : Memory) (t : code.Transaction) (parts : PartRecords) (p : Committed v w x old mid new t parts) → Keeps v c h old → Remembers c h old → IsLawful w → IsLawful x → Keeps x (longer c (entry_of p)) h new
 keeps_longer v w x c h old mid new t parts p before m lawful lawful_after =
     let e = entry_of p in
     let k = keeps_prepared v w c h old mid p.prepares lawful before in
@@ -378,7 +378,7 @@ keeps_longer v w x c h old mid new t parts p before m lawful lawful_after =
 with_entry_is : (o : Option code_stamp.Stamp) (stamp : code_stamp.Stamp) (t : Transaction) (c : Contents) → o ≡ Some stamp → with_entry o t c ≡ longer c (record { stamp = stamp_value stamp; transaction = t })
 with_entry_is o stamp t c is = ap (λ (y : Option code_stamp.Stamp). with_entry y t c) is
 
-pub open_longer : (v w x : View) (told : Bool) (c : Contents) (h : ℕ) (old mid new : OpenSite) (t : code.Transaction) (parts : PartRecords) → Committed v w x old mid new t parts → IsLawful w → IsLawful x → IsOpen v told c h old
+pub open_longer : (v w x : View) (told : Bool) (c : Contents) (h : ℕ) (old mid new : Memory) (t : code.Transaction) (parts : PartRecords) → Committed v w x old mid new t parts → IsLawful w → IsLawful x → IsOpen v told c h old
     → IsOpen x told (with_entry old.stamp (transaction_value t) c) h new
 open_longer v w x told c h old mid new t parts p lawful lawful_after is =
     subst (λ (d : Contents). IsOpen x told d h new) (sym (with_entry_is old.stamp p.stamp (transaction_value t) c p.under)) (record {
@@ -387,7 +387,7 @@ open_longer v w x told c h old mid new t parts p lawful lawful_after is =
     })
 
 -- open for calls, and under its reign
-pub ready_by : (w x : View) (mid new : OpenSite) → IsReady w mid → ((g : ℕ) → AreReady w g mid.journals.journals.items → AreReady x g new.journals.journals.items) → length new.journals.journals.items ≡ length mid.journals.journals.items
+pub ready_by : (w x : View) (mid new : Memory) → IsReady w mid → ((g : ℕ) → AreReady w g mid.journals.journals.items → AreReady x g new.journals.journals.items) → length new.journals.journals.items ≡ length mid.journals.journals.items
     → ((g : ℕ) → AreReady w g mid.journals.journals.items → OthersStay (IsNewestFile g (length mid.journals.journals.items)) w x) → new.instance ≡ mid.instance → new.layout ≡ mid.layout
     → AreHeld w (length (regions mid.instance.records)) new.globals → count_of new < 2 ^ 40 → IsWhole new.entries → new.entries.regions ≡ mid.entries.regions → IsReady x new
 ready_by w x mid new ready journals count stays instance layout held few whole wide =
@@ -408,13 +408,13 @@ ready_by w x mid new ready journals count stays instance layout held few whole w
       each_place = wide ∙ ready.each_place ∙ ap (λ (i : Instance). length (regions i.records)) (sym instance);
     }
 
-pub ready_after : (w x : View) (mid new : OpenSite) → IsReady w mid → ((g : ℕ) → AreReady w g mid.journals.journals.items → AreReady x g new.journals.journals.items) → length new.journals.journals.items ≡ length mid.journals.journals.items
+pub ready_after : (w x : View) (mid new : Memory) → IsReady w mid → ((g : ℕ) → AreReady w g mid.journals.journals.items → AreReady x g new.journals.journals.items) → length new.journals.journals.items ≡ length mid.journals.journals.items
     → ((g : ℕ) → AreReady w g mid.journals.journals.items → OthersStay (IsNewestFile g (length mid.journals.journals.items)) w x) → new.instance ≡ mid.instance → new.layout ≡ mid.layout
     → AreChanged mid.globals new.globals → count_of new < 2 ^ 40 → IsWhole new.entries → new.entries.regions ≡ mid.entries.regions → IsReady x new
 ready_after w x mid new ready journals count stays instance layout changed few whole wide =
     ready_by w x mid new ready journals count stays instance layout (held_changed w (length (regions mid.instance.records)) mid.globals new.globals changed ready.regions) few whole wide
 
-pub reign_stays : (old new : OpenSite) → HasReign old → new.instance ≡ old.instance → new.stamp ≡ old.stamp → count_of old ≤ count_of new → HasReign new
+pub reign_stays : (old new : Memory) → HasReign old → new.instance ≡ old.instance → new.stamp ≡ old.stamp → count_of old ≤ count_of new → HasReign new
 reign_stays old new r instance stamp more = record {
   stamp = r.stamp;
   is = stamp ∙ r.is;
@@ -422,16 +422,16 @@ reign_stays old new r instance stamp more = record {
 }
 
 -- the frame of preparing
-pub own_stays : (v w : View) (s : OpenSite) → IsReady v s → ((g : ℕ) → AreReady v g s.journals.journals.items → OthersStay (IsNewestFile g (length s.journals.journals.items)) v w) → OthersStay (IsOwnJournal s) v w
+pub own_stays : (v w : View) (s : Memory) → IsReady v s → ((g : ℕ) → AreReady v g s.journals.journals.items → OthersStay (IsNewestFile g (length s.journals.journals.items)) v w) → OthersStay (IsOwnJournal s) v w
 own_stays v w s ready stays = subst (λ (n : ℕ). OthersStay (IsNewestFile (generation s.instance.records) n) v w) ready.each_region (stays (generation s.instance.records) ready.journals)
 
 -- open for calls, with what is prepared
-pub ready_prepared : (v w : View) (old new : OpenSite) (js : RegionJournals) → IsReady v old → ((g : ℕ) → AreReady v g old.journals.journals.items → AreReady w g js.journals.items) → length js.journals.items ≡ length old.journals.journals.items
+pub ready_prepared : (v w : View) (old new : Memory) (js : RegionJournals) → IsReady v old → ((g : ℕ) → AreReady v g old.journals.journals.items → AreReady w g js.journals.items) → length js.journals.items ≡ length old.journals.journals.items
     → ((g : ℕ) → AreReady v g old.journals.journals.items → OthersStay (IsNewestFile g (length old.journals.journals.items)) v w) → new.journals ≡ js → new.instance ≡ old.instance → new.layout ≡ old.layout
     → AreChanged old.globals new.globals → count_of new < 2 ^ 40 → IsWhole new.entries → new.entries.regions ≡ old.entries.regions → IsReady w new
 ready_prepared v w old new js ready journals count stays is instance layout changed few whole wide =
     ready_after v w old new ready (subst (λ (k : RegionJournals). (g : ℕ) → AreReady v g old.journals.journals.items → AreReady w g k.journals.items) (sym is) journals)
     (ap (λ (k : RegionJournals). length k.journals.items) is ∙ count) stays instance layout changed few whole wide
 
-pub still_prepared : (parts : PartRecords) (new : OpenSite) (js : RegionJournals) → new.journals ≡ js → ArePrepared parts js.journals.items → ArePrepared parts new.journals.journals.items
+pub still_prepared : (parts : PartRecords) (new : Memory) (js : RegionJournals) → new.journals ≡ js → ArePrepared parts js.journals.items → ArePrepared parts new.journals.journals.items
 still_prepared parts new js is prepared = subst (λ (k : RegionJournals). ArePrepared parts k.journals.items) (sym is) prepared

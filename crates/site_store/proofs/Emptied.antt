@@ -6,11 +6,11 @@ use Rattle.journal_defs.specs.Growth.{NonePast}
 use Rattle.site_defs.specs.Contents.{Contents, NO_LEFTOVER}
 use Rattle.site_defs.specs.Fronts.{with_sequence}
 use Rattle.site_defs.specs.Stands.{HasLeft}
-use Rattle.site_store.specs.declared.site.OpenSite.{OpenSite}
+use Rattle.site_store.specs.declared.memory.Memory.{Memory}
 use Rattle.site_store.specs.Site.{Keeps}
 use Rattle.site_store.proofs.Images.{left_nothing}
 
-pub none_left : (v : View) (c : Contents) (h : ℕ) (s : OpenSite) (f : Files) → Keeps v c h s → Image v f → HasLeft f (with_sequence c (take h c.sequence)) NO_LEFTOVER
+pub none_left : (v : View) (c : Contents) (h : ℕ) (s : Memory) (f : Files) → Keeps v c h s → Image v f → HasLeft f (with_sequence c (take h c.sequence)) NO_LEFTOVER
 none_left v c h s f k now =
     let sound = k.sound f now in
     left_nothing f (with_sequence c (take h c.sequence)) k.records sound.held sound.clean

@@ -92,6 +92,17 @@ pub two_on : {T U : Type 0} (e : SiteError) → ((x : ℕ) × IsErrOf {T = T} (E
 two_on e (inl failed) = inl (failed.0, handed_on e (error.Failed failed.0) failed.1)
 two_on e (inr none) = inr (handed_on e error.NoMemory none)
 
+-- one of these errors, and of three
+pub finish_causes : (r : Result Unit SiteError) → OnErr r (((x : ℕ) × IsErrOf r (error.Failed x)) ⊎ IsErrOf r error.NoMemory) → OnErr r (((x : ℕ) × IsErrOf r (error.Failed x)) ⊎ ((x : ℕ) × IsErrOf r (error.Stopped x)) ⊎ IsErrOf r error.NoMemory)
+finish_causes (Ok x) causes = tt
+finish_causes (Err e) (inl failed) = inl failed
+finish_causes (Err e) (inr none) = inr (inr none)
+
+pub harden_causes : {T U : Type 0} (e : SiteError) → ((x : ℕ) × IsErrOf {T = T} (Err e) (error.Failed x)) ⊎ ((x : ℕ) × IsErrOf {T = T} (Err e) (error.Stopped x))
+    → ((x : ℕ) × IsErrOf {T = U} (Err e) (error.Failed x)) ⊎ ((x : ℕ) × IsErrOf {T = U} (Err e) (error.Stopped x)) ⊎ IsErrOf {T = U} (Err e) error.NoMemory
+harden_causes e (inl failed) = inl (failed.0, handed_on e (error.Failed failed.0) failed.1)
+harden_causes e (inr stopped) = inr (inl (stopped.0, handed_on e (error.Stopped stopped.0) stopped.1))
+
 -- what an error of the index was
 pub index_file_was : {T U : Type 0} (fault : ℕ) (x : IndexError) (file offset : ℕ) → IsErrOf {T = T} (Err (index_error fault x)) (error.NotAFile file offset) → IsErrOf {T = U} (Err x) (index.NotAFile file offset)
 index_file_was fault index.Failed file offset is = absurd (cc is)

@@ -29,7 +29,7 @@ use Rattle.site_defs.specs.Contents.{Contents, Standing, bare}
 use Rattle.site_defs.specs.Behind.{IsFrontLeft, IsSiteWith}
 use Rattle.site_defs.specs.Fronts.{with_sequence, IsFrontOf}
 use Rattle.site_defs.specs.Stands.{IsSite}
-use Rattle.site_store.specs.declared.site.OpenSite.{OpenSite}
+use Rattle.site_store.specs.declared.memory.Memory.{Memory}
 use Rattle.region_store.specs.Joined.{joined}
 use Rattle.site_store.specs.Site.{Remembers, IsReady, Keeps, IsOpen, IsSettled, AreOnBlocks, count_of}
 use Rattle.site_store.proofs.Remembered.{remembered_length}
@@ -53,13 +53,13 @@ use Rattle.journal_defs.specs.Surviving.{reigns}
 abbrev pub HardenMoments : View → View → List RegionJournal → Type 0
 HardenMoments v w js = (g : ℕ) (hard waiting : ℕ → List JournalRecord) → AreReady v g js → KeepsJournals v hard waiting js → AtEachMoment v w (OnlyIn v (IsNewestFile g (length js)) (λ c. (kept : ℕ → ℕ) × HasFirst g (length js) hard waiting kept c))
 
-harden_run : (v w : View) (c : Contents) (h : ℕ) (s : OpenSite) (k : Keeps v c h s) → IsReady v s → s.instance.records ≡ c.instance → HardenMoments v w s.journals.journals.items
+harden_run : (v w : View) (c : Contents) (h : ℕ) (s : Memory) (k : Keeps v c h s) → IsReady v s → s.instance.records ≡ c.instance → HardenMoments v w s.journals.journals.items
     → AtEachMoment v w (OnlyIn v (IsNewestFile (suc k.g) (length (regions c.instance))) (λ f. (kept : ℕ → ℕ) × HasFirst (suc k.g) (length (regions c.instance)) k.newer k.waits kept f))
 harden_run v w c h s k ready own run =
     subst (λ (n : ℕ). AtEachMoment v w (OnlyIn v (IsNewestFile (suc k.g) n) (λ f. (kept : ℕ → ℕ) × HasFirst (suc k.g) n k.newer k.waits kept f))) (newest.count v c h s k ready own)
     (run (suc k.g) k.newer k.waits (newest.are_ready v c h s k ready own) k.journal_files)
 
-pub harden_moments : (v w : View) (c : Contents) (h : ℕ) (s : OpenSite) → IsReady v s → HardenMoments v w s.journals.journals.items → IsOpen v true c h s → AtEachMoment v w (λ f. (o : Contents) × IsFrontOf c.sequence h c o × IsSite f o)
+pub harden_moments : (v w : View) (c : Contents) (h : ℕ) (s : Memory) → IsReady v s → HardenMoments v w s.journals.journals.items → IsOpen v true c h s → AtEachMoment v w (λ f. (o : Contents) × IsFrontOf c.sequence h c o × IsSite f o)
 harden_moments v w c h s ready run is =
     let k = is.kept refl in
     weaker v w (OnlyIn v (IsNewestFile (suc k.g) (length (regions c.instance))) (λ f. (kept : ℕ → ℕ) × HasFirst (suc k.g) (length (regions c.instance)) k.newer k.waits kept f)) (λ f. (o : Contents) × IsFrontOf c.sequence h c o × IsSite f o)
@@ -67,7 +67,7 @@ harden_moments v w c h s ready run is =
     (harden_run v w c h s k ready is.remembered.instance run)
 
 -- with the parts that came past it
-pub harden_left : (v w : View) (c : Contents) (h : ℕ) (s : OpenSite) → IsReady v s → HardenMoments v w s.journals.journals.items → IsOpen v true c h s → AtEachMoment v w (λ f. (o : Standing) × IsFrontLeft c.sequence h c o × IsSiteWith f o)
+pub harden_left : (v w : View) (c : Contents) (h : ℕ) (s : Memory) → IsReady v s → HardenMoments v w s.journals.journals.items → IsOpen v true c h s → AtEachMoment v w (λ f. (o : Standing) × IsFrontLeft c.sequence h c o × IsSiteWith f o)
 harden_left v w c h s ready run is =
     let k = is.kept refl in
     weaker v w (OnlyIn v (IsNewestFile (suc k.g) (length (regions c.instance))) (λ f. (kept : ℕ → ℕ) × HasFirst (suc k.g) (length (regions c.instance)) k.newer k.waits kept f)) (λ f. (o : Standing) × IsFrontLeft c.sequence h c o × IsSiteWith f o)
@@ -78,7 +78,7 @@ pub harden_stands : (v w : View) (c : Contents) (h : ℕ) → IsLawful w → AtE
 harden_stands v w c h lawful run = reads_of w (λ f. (o : Contents) × IsFrontOf c.sequence h c o × IsSite f o) lawful (holds_now v w (λ f. (o : Contents) × IsFrontOf c.sequence h c o × IsSite f o) lawful run)
 
 -- What waits of a site whose entries are all hardened holds no part, so that wherever a crash cuts it nothing lies behind them.
-module _ (v : View) (c : Contents) (s : OpenSite) (k : Keeps v c (length c.sequence) s) (ready : IsReady v s) (own : s.instance.records ≡ c.instance) where
+module _ (v : View) (c : Contents) (s : Memory) (k : Keeps v c (length c.sequence) s) (ready : IsReady v s) (own : s.instance.records ≡ c.instance) where
   no_part : (r : ℕ) → filter is_tcom (k.waits r) ≡ []
   no_part r = k.are_waits.parts_are r ∙ ap (λ (ps : List (ℕ → Option Part)). tcoms ps r) (none_waiting c.instance (suc k.g) (length c.sequence) k.waiting (drop (length c.sequence) c.sequence) (drop-length c.sequence) k.are_waiting)
 
@@ -101,7 +101,7 @@ module _ (v : View) (c : Contents) (s : OpenSite) (k : Keeps v c (length c.seque
       }
 
 -- After it: what has been done to a site whose entries were hardened.
-pub record Hardens (v w : View) (old new : OpenSite) : Type 0 where
+pub record Hardens (v w : View) (old new : Memory) : Type 0 where
   pub ready : IsReady v old
   pub journals : (g : ℕ) → AreReady v g old.journals.journals.items → AreReady w g new.journals.journals.items
   pub state : (hard waiting : ℕ → List JournalRecord) → KeepsJournals v hard waiting old.journals.journals.items → KeepsJournals w (λ r. hard r ++ waiting r) (λ r. []) new.journals.journals.items
@@ -112,12 +112,12 @@ pub record Hardens (v w : View) (old new : OpenSite) : Type 0 where
   pub entries : new.entries ≡ old.entries
   pub globals : new.globals ≡ old.globals
 
-pub ready_hardened : (v w : View) (old new : OpenSite) → Hardens v w old new → IsReady w new
+pub ready_hardened : (v w : View) (old new : Memory) → Hardens v w old new → IsReady w new
 ready_hardened v w old new p =
     ready_after v w old new p.ready p.journals p.count p.stays p.instance p.layout (changed_not old.globals new.globals p.globals)
     (subst (λ (i : EntryIndex). entry_count i < 2 ^ 40) (sym p.entries) p.ready.few) (subst IsWhole (sym p.entries) p.ready.whole) (ap (λ (i : EntryIndex). i.regions) p.entries)
 
-module _ (v w : View) (c : Contents) (h : ℕ) (old new : OpenSite) (p : Hardens v w old new) (lawful : IsLawful w) (k : Keeps v c h old) (m : Remembers c h old) where
+module _ (v w : View) (c : Contents) (h : ℕ) (old new : Memory) (p : Hardens v w old new) (lawful : IsLawful w) (k : Keeps v c h old) (m : Remembers c h old) where
   own : old.instance.records ≡ c.instance
   own = m.instance
 
@@ -228,7 +228,7 @@ module _ (v w : View) (c : Contents) (h : ℕ) (old new : OpenSite) (p : Hardens
   unfolding keeps_hardened
   none_waits_then r = refl
 
-pub open_hardened : (v w : View) (told : Bool) (c : Contents) (h : ℕ) (old new : OpenSite) → Hardens v w old new → new.hardened ≡ count_of old → IsLawful w → IsOpen v told c h old → IsOpen w told c (length c.sequence) new
+pub open_hardened : (v w : View) (told : Bool) (c : Contents) (h : ℕ) (old new : Memory) → Hardens v w old new → new.hardened ≡ count_of old → IsLawful w → IsOpen v told c h old → IsOpen w told c (length c.sequence) new
 open_hardened v w told c h old new p hardened lawful is = record {
   remembered = record {
     instance = ap (λ (i : Instance). i.records) p.instance ∙ is.remembered.instance;
@@ -240,7 +240,7 @@ open_hardened v w told c h old new p hardened lawful is = record {
 }
 
 -- where all entries were hardened, nothing but what waited is new
-pub open_settled : (v w : View) (told : Bool) (c : Contents) (old new : OpenSite) → Hardens v w old new → new.hardened ≡ old.hardened → IsLawful w → IsOpen v told c (length c.sequence) old → IsSettled w told c new
+pub open_settled : (v w : View) (told : Bool) (c : Contents) (old new : Memory) → Hardens v w old new → new.hardened ≡ old.hardened → IsLawful w → IsOpen v told c (length c.sequence) old → IsSettled w told c new
 open_settled v w told c old new p hardened lawful is = record {
   is = record {
     remembered = record {
@@ -255,7 +255,7 @@ open_settled v w told c old new p hardened lawful is = record {
 }
 
 -- and at each moment of that all of it stands, with nothing behind
-pub settle_left : (v w : View) (c : Contents) (old : OpenSite) → IsReady v old → HardenMoments v w old.journals.journals.items → IsOpen v true c (length c.sequence) old → AtEachMoment v w (λ f. IsSiteWith f (bare c))
+pub settle_left : (v w : View) (c : Contents) (old : Memory) → IsReady v old → HardenMoments v w old.journals.journals.items → IsOpen v true c (length c.sequence) old → AtEachMoment v w (λ f. IsSiteWith f (bare c))
 settle_left v w c old ready run is =
     let k = is.kept refl in
     weaker v w (OnlyIn v (IsNewestFile (suc k.g) (length (regions c.instance))) (λ f. (kept : ℕ → ℕ) × HasFirst (suc k.g) (length (regions c.instance)) k.newer k.waits kept f)) (λ f. IsSiteWith f (bare c))

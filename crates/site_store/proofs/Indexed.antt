@@ -30,7 +30,7 @@ use Rattle.entry_index.specs.Indexes.{Indexes}
 use Rattle.entry_index.specs.Among.{IsIndexOf}
 use Rattle.entry_index.proofs.IndexLaws.{row_more}
 use Rattle.entry_index.proofs.AmongLaws.{part_moved, index_behind, index_stands}
-use Rattle.site_store.specs.declared.site.OpenSite.{OpenSite}
+use Rattle.site_store.specs.declared.memory.Memory.{Memory}
 use Rattle.site_defs.specs.Contents.{Contents}
 use Rattle.site_store.specs.Site.{IsReady, Keeps}
 use Rattle.site_store.specs.Committing.{AddsPlaces, next_place, place_behind}
@@ -42,7 +42,7 @@ told_in : {X : Type 0} (o : Option Files) (P : Files → Type 0) → IsSomeAnd o
 told_in None P told f = absurd told
 told_in (Some files) P told f = f files told
 
-module _ (v : View) (c : Contents) (h : ℕ) (s : OpenSite) (k : Keeps v c h s) (ready : IsReady v s) (own : s.instance.records ≡ c.instance) where
+module _ (v : View) (c : Contents) (h : ℕ) (s : Memory) (k : Keeps v c h s) (ready : IsReady v s) (own : s.instance.records ≡ c.instance) where
   -- the records of a region, with those that wait
   abbrev pub with_waiting : ℕ → List Placed
   with_waiting r = k.records.journal r ++ map (in_generation (suc k.g)) (k.waits r)

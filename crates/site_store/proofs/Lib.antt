@@ -35,10 +35,9 @@ pub mod OpenedTo
 pub mod Loaded
 pub mod Founded
 pub mod Rolled
-pub mod Mapped
+pub mod Appended
 pub mod Unwritten
 pub mod Owned
-pub mod Histories
 pub mod Pieces
 pub mod TheFiles
 pub mod Shown

@@ -31,7 +31,7 @@ use Rattle.site_files.proofs.Kept.{image_read, held_read}
 use Rattle.site_defs.specs.Contents.{Contents, Leftover}
 use Rattle.site_defs.specs.Forward.{opened_as, MayOpenAs}
 use Rattle.site_defs.specs.Stands.{IsSite, HasLeft}
-use Rattle.site_store.specs.declared.site.OpenSite.{OpenSite}
+use Rattle.site_store.specs.declared.memory.Memory.{Memory}
 use Rattle.site_store.specs.Finding.{HasLayout}
 use Rattle.region_store.specs.Joined.{joined}
 use Rattle.site_store.specs.Site.{Remembers, AreHeld, IsReady, IsOpen, StandOn, WasOpened, WasOpenedFrom, count_of}
@@ -47,7 +47,7 @@ use Rattle.entry_index.specs.Among.{IsIndexOf}
 use Rattle.entry_index.specs.Order.{StandUpTo}
 
 -- what was opened is what any records of the files stand for
-pub opened_from : (o : Option Files) (v : View) (rs : List InstanceRecord) (last : ℕ → ℕ) (journal : ℕ → List Placed) (seq : Sequence) (s : OpenSite) → IfSome o (WasRead v rs last journal) → IsSequence (record { instance = rs; journal = journal }) seq
+pub opened_from : (o : Option Files) (v : View) (rs : List InstanceRecord) (last : ℕ → ℕ) (journal : ℕ → List Placed) (seq : Sequence) (s : Memory) → IfSome o (WasRead v rs last journal) → IsSequence (record { instance = rs; journal = journal }) seq
     → count_of s ≡ length seq → s.instance.records ≡ rs ++ next_cut rs (length seq) ∷ [] → IsIndexOf journal (reigns rs) s.entries seq
     → IfSome o (λ files. (u : Records) (other : Sequence) → AreRecords files u → IsSequence u other → WasOpenedFrom u other s)
 opened_from o v rs last journal seq s read sequence count records indexed = weaker_told o (WasRead v rs last journal) (λ files. (u : Records) (other : Sequence) → AreRecords files u → IsSequence u other → WasOpenedFrom u other s) read (λ files was u other held is.
@@ -62,7 +62,7 @@ opened_from o v rs last journal seq s read sequence count records indexed = weak
     })
 
 -- and what was read is such records
-pub held_from : (P : Records → Sequence → Type 0) (o : Option Files) (v : View) (rs : List InstanceRecord) (last : ℕ → ℕ) (journal : ℕ → List Placed) (seq : Sequence) (s : OpenSite) → IfSome o (WasRead v rs last journal) → IsSequence (record { instance = rs; journal = journal }) seq
+pub held_from : (P : Records → Sequence → Type 0) (o : Option Files) (v : View) (rs : List InstanceRecord) (last : ℕ → ℕ) (journal : ℕ → List Placed) (seq : Sequence) (s : Memory) → IfSome o (WasRead v rs last journal) → IsSequence (record { instance = rs; journal = journal }) seq
     → count_of s ≡ length seq → s.instance.records ≡ rs ++ next_cut rs (length seq) ∷ [] → IsIndexOf journal (reigns rs) s.entries seq
     → P (record { instance = rs; journal = journal }) seq → IfSome o (λ files. (u : Records) × (other : Sequence) × AreRecords files u × IsSequence u other × WasOpenedFrom u other s × P u other)
 held_from P o v rs last journal seq s read sequence count records indexed is = weaker_told o (WasRead v rs last journal) (λ files. (u : Records) × (other : Sequence) × AreRecords files u × IsSequence u other × WasOpenedFrom u other s × P u other) read (λ files was.
@@ -148,7 +148,7 @@ stretched (suc n) es g is none = (
 )
 
 -- whatever the disk tells, a site has as many entries as some that lead to its nodes
-pub remembers_some : (anew : Bool) (rs : List InstanceRecord) (n : ℕ) (s : OpenSite) → s.instance.records ≡ rs ++ next_cut rs n ∷ [] → count_of s ≡ n → s.hardened ≡ n
+pub remembers_some : (anew : Bool) (rs : List InstanceRecord) (n : ℕ) (s : Memory) → s.instance.records ≡ rs ++ next_cut rs n ∷ [] → count_of s ≡ n → s.hardened ≡ n
     → (es : Sequence) → joined s.globals ≡ state es → (n ≡ 0 → joined s.globals ≡ globals.empty) → (c : Contents) × (t : List ℕ) × Remembers (opened_as anew t c) (length c.sequence) s
 remembers_some anew rs n s records count hardened es is none =
     let as_long = stretched n es (joined s.globals) is none in
@@ -163,7 +163,7 @@ remembers_some anew rs n s records count hardened es is none =
       },
     )
 
-module _ (rs : List InstanceRecord) (last : ℕ → ℕ) (form : MayBeOpened rs last) (s : OpenSite) (n : ℕ) (records : s.instance.records ≡ rs ++ next_cut rs n ∷ []) where
+module _ (rs : List InstanceRecord) (last : ℕ → ℕ) (form : MayBeOpened rs last) (s : Memory) (n : ℕ) (records : s.instance.records ≡ rs ++ next_cut rs n ∷ []) where
   pub was_opened : n ≡ count_of s → s.hardened ≡ count_of s → count_of s < 2 ^ 40 → s.stamp ≡ None → WasOpened s
   was_opened count hardened few none = record {
     created = subst (λ (l : List InstanceRecord). 0 < length l) (sym records) (longer rs (next_cut rs n));
@@ -292,7 +292,7 @@ module _ (anew : Bool) (u v w : View) (rs : List InstanceRecord) (last : ℕ →
   sound_image : (files : Files) → WasRead v rs last journal files → EachStands u → (d : Files) → Image v d → IsSoundImage d S0 seq
   sound_image files r each d image = image_sound v rs last journal seq form sequence files r d image (each d (earlier d image)).0 (each d (earlier d image)).1
 
-  module _ (s : OpenSite) (records : s.instance.records ≡ rs ++ next_cut rs (length seq) ∷ []) (count : count_of s ≡ length seq) (indexed : IsIndexOf journal (reigns rs) s.entries seq) (hardened : s.hardened ≡ length seq) where
+  module _ (s : Memory) (records : s.instance.records ≡ rs ++ next_cut rs (length seq) ∷ []) (count : count_of s ≡ length seq) (indexed : IsIndexOf journal (reigns rs) s.entries seq) (hardened : s.hardened ≡ length seq) where
     module _ (begun : List Journal) (js_are : s.journals.journals.items ≡ map newly begun) where
       abbrev pub AreAllStanding : Files → Type 0
       AreAllStanding files = (r : ℕ) → r < length (regions rs) → StandUpTo files r (generation rs) (journal r)

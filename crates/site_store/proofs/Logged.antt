@@ -47,7 +47,7 @@ use Rattle.region_store.proofs.Making.{region_there}
 use Rattle.site_defs.specs.Contents.{Contents, NO_LEFTOVER}
 use Rattle.site_defs.specs.Fronts.{with_sequence}
 use Rattle.site_defs.specs.Stands.{IsSite, HasLeft}
-use Rattle.site_store.specs.declared.site.OpenSite.{OpenSite}
+use Rattle.site_store.specs.declared.memory.Memory.{Memory}
 use Rattle.site_store.specs.Committing.{IsSameSite, IsOwnJournal, HasLogged, AreLoggingMoments, Appends, AppendsPart, region_by, parts_of}
 use Rattle.site_store.specs.declared.layout.Layout.{Layout}
 use Rattle.site_store.specs.Site.{IsReady, AreHeld, AreOnBlocks, IsOnBlocks, Keeps, IsOpen}
@@ -69,13 +69,13 @@ pub record IsLogged (bytes : List ℕ) (is : List Before) (x y : Standing) : Typ
   pub holds : (e : Chosen) (g : ℕ) → HoldsRegion e bytes x → HoldsRegion (logged_all e (map (in_generation g) (image_records is))) bytes y
 
 -- of each, by the files as they read
-pub record HasImages (v w : View) (old new : OpenSite) (files : Files) : Type 0 where
+pub record HasImages (v w : View) (old new : Memory) (files : Files) : Type 0 where
   pub images : ℕ → List Before
   pub no_others : (r : ℕ) → length old.globals.regions ≤ r → images r ≡ []
   pub each : (r : ℕ) → r < length old.globals.regions → IsLogged (files (region_at old.globals r).file) (images r) (region_at old.globals r) (region_at new.globals r)
   pub state : (hard waits : ℕ → List JournalRecord) → KeepsJournals v hard waits old.journals.journals.items → KeepsJournals w hard (λ r. waits r ++ image_records (images r)) new.journals.journals.items
 
-pub record Logs (v w : View) (old new : OpenSite) : Type 0 where
+pub record Logs (v w : View) (old new : Memory) : Type 0 where
   pub ready : IsReady v old
   pub journals : (g : ℕ) → AreReady v g old.journals.journals.items → AreReady w g new.journals.journals.items
   pub count : length new.journals.journals.items ≡ length old.journals.journals.items
@@ -87,7 +87,7 @@ pub record Logs (v w : View) (old new : OpenSite) : Type 0 where
   pub images : IfSome v.content (HasImages v w old new)
 
 -- it's open for calls
-held_logged : (v w : View) (old new : OpenSite) → Logs v w old new → AreHeld v (length (regions old.instance.records)) new.globals
+held_logged : (v w : View) (old new : Memory) → Logs v w old new → AreHeld v (length (regions old.instance.records)) new.globals
 held_logged v w old new p =
     let many = p.ready.regions.count in
     record {
@@ -99,7 +99,7 @@ held_logged v w old new p =
           (e, subst (λ (f : ℕ). HoldsRegion e (files f) (region_at new.globals r)) (sym one.file) (one.holds was.0 0 was.1)));
     }
 
-pub ready_logged : (v w : View) (old new : OpenSite) → Logs v w old new → IsReady w new
+pub ready_logged : (v w : View) (old new : Memory) → Logs v w old new → IsReady w new
 ready_logged v w old new p =
     committed.ready_by v w old new p.ready p.journals p.count p.stays p.same.instance p.same.layout (held_logged v w old new p)
     (subst (λ (i : EntryIndex). entry_count i < 2 ^ 40) (sym p.entries) p.ready.few) (subst IsWhole (sym p.entries) p.ready.whole) (ap (λ (i : EntryIndex). i.regions) p.entries)
@@ -139,7 +139,7 @@ region_logged d f files s u n g r is x y on one instance journal was now =
         (one.holds e g (subst (λ (bytes : List ℕ). HoldsRegion e bytes x) (was ∙ sym (ap files on.file)) h)))
 
 -- and on the disk it is as it was, with these images waiting
-module _ (v w : View) (c : Contents) (h : ℕ) (old new : OpenSite) (p : Logs v w old new) (lawful : IsLawful w) (k : Keeps v c h old) (own : old.instance.records ≡ c.instance) (files : Files) (now : Image v files) (has : HasImages v w old new files) where
+module _ (v w : View) (c : Contents) (h : ℕ) (old new : Memory) (p : Logs v w old new) (lawful : IsLawful w) (k : Keeps v c h old) (own : old.instance.records ≡ c.instance) (files : Files) (now : Image v files) (has : HasImages v w old new files) where
   n : ℕ
   n = length (regions c.instance)
 
@@ -237,7 +237,7 @@ module _ (v w : View) (c : Contents) (h : ℕ) (old new : OpenSite) (p : Logs v 
     journal_files = has.state k.newer k.waits k.journal_files;
   }
 
-open_logged : (v w : View) (told : Bool) (c : Contents) (h : ℕ) (old new : OpenSite) → Logs v w old new → IsLawful v → IsLawful w → IsOpen v told c h old → IsOpen w told c h new
+open_logged : (v w : View) (told : Bool) (c : Contents) (h : ℕ) (old new : Memory) → Logs v w old new → IsLawful v → IsLawful w → IsOpen v told c h old → IsOpen w told c h new
 open_logged v w told c h old new p before lawful is = record {
   remembered = record {
     instance = ap (λ (i : Instance). i.records) p.same.instance ∙ is.remembered.instance;
@@ -252,7 +252,7 @@ open_logged v w told c h old new p before lawful is = record {
 }
 
 -- the images wait, where there is a journal
-waits_logged : (v w : View) (old new : OpenSite) → Logs v w old new → 0 < length old.journals.journals.items → (hard waits : ℕ → List JournalRecord) → KeepsJournals v hard waits old.journals.journals.items
+waits_logged : (v w : View) (old new : Memory) → Logs v w old new → 0 < length old.journals.journals.items → (hard waits : ℕ → List JournalRecord) → KeepsJournals v hard waits old.journals.journals.items
     → (images : ℕ → List Before) × KeepsJournals w hard (λ r. waits r ++ image_records (images r)) new.journals.journals.items
 waits_logged v w old new p some hard waits keeps = by_content v.content p.images (keeps.has 0 x.0 x.1)
   where
@@ -264,7 +264,7 @@ waits_logged v w old new p some hard waits keeps = by_content v.content p.images
     by_content None has held = absurd held
     by_content (Some files) has held = (has.images, has.state hard waits keeps)
 
-pub has_logged : (v w : View) (old new : OpenSite) → Logs v w old new → 0 < length old.globals.regions → IsLawful v → IsLawful w → HasLogged v w old new
+pub has_logged : (v w : View) (old new : Memory) → Logs v w old new → 0 < length old.globals.regions → IsLawful v → IsLawful w → HasLogged v w old new
 has_logged v w old new p some before lawful = record {
   ready = ready_logged v w old new p;
   same = p.same;
@@ -275,7 +275,7 @@ has_logged v w old new p some before lawful = record {
   stays_open = λ told c h is. open_logged v w told c h old new p before lawful is;
 }
 
-pub logging_moments : (v w : View) (old : OpenSite) → IsReady v old → AppendMoments v w old.journals.journals.items → AreLoggingMoments v w old
+pub logging_moments : (v w : View) (old : Memory) → IsReady v old → AppendMoments v w old.journals.journals.items → AreLoggingMoments v w old
 logging_moments v w old ready run = record {
   any_moment = λ c h is. committed.append_moments v w c h old (is.kept refl) ready is.remembered.instance run;
   bare = λ c h is. committed.append_bare v w c h old (is.kept refl) ready is.remembered.instance run;
@@ -286,7 +286,7 @@ logging_moments v w old ready run = record {
 none_more : (waits : ℕ → List JournalRecord) → (λ (r : ℕ). waits r ++ image_records []) ≡ waits
 none_more waits = fun_ext (λ r. append-nil (waits r))
 
-pub logged_none : (u : View) (s : OpenSite) → IsReady u s → HasLogged u u s s
+pub logged_none : (u : View) (s : Memory) → IsReady u s → HasLogged u u s s
 logged_none u s ready = record {
   ready = ready;
   same = record { instance = refl; layout = refl; hardened = refl; stamp = refl };
@@ -297,7 +297,7 @@ logged_none u s ready = record {
   stays_open = λ told c h is. is;
 }
 
-pub same_then : (a b c : OpenSite) → IsSameSite a b → IsSameSite b c → IsSameSite a c
+pub same_then : (a b c : Memory) → IsSameSite a b → IsSameSite b c → IsSameSite a c
 same_then a b c first second = record {
   instance = second.instance ∙ first.instance;
   layout = second.layout ∙ first.layout;
@@ -311,7 +311,7 @@ with_images before is r = before r ++ image_records (is r)
 images_then : (before : ℕ → List JournalRecord) (is js : ℕ → List Before) → with_images (with_images before is) js ≡ with_images before (λ r. is r ++ js r)
 images_then before is js = fun_ext (λ r. append_assoc (before r) (image_records (is r)) (image_records (js r)) ∙ ap (λ (l : List JournalRecord). before r ++ l) (sym (map-append (λ i. Pblk i) (is r) (js r))))
 
-pub logged_then : (u v w : View) (a b c : OpenSite) → HasLogged u v a b → HasLogged v w b c → HasLogged u w a c
+pub logged_then : (u v w : View) (a b c : Memory) → HasLogged u v a b → HasLogged v w b c → HasLogged u w a c
 logged_then u v w a b c first second = record {
   ready = second.ready;
   same = same_then a b c first.same second.same;
@@ -325,13 +325,13 @@ logged_then u v w a b c first second = record {
   stays_open = λ told x h is. second.stays_open told x h (first.stays_open told x h is);
 }
 
-pub moments_none : (u : View) (s : OpenSite) → AreLoggingMoments u u s
+pub moments_none : (u : View) (s : Memory) → AreLoggingMoments u u s
 moments_none u s = record {
   any_moment = λ c h is. started u (λ f. IsSite f (with_sequence c (take h c.sequence))) (λ f now. (is.kept refl).images f now);
   bare = λ c h is. committed.quiet_bare u c h s is;
 }
 
-pub moments_then : (u v w : View) (a b : OpenSite) → AreLoggingMoments u v a → HasLogged u v a b → AreLoggingMoments v w b → AreLoggingMoments u w a
+pub moments_then : (u v w : View) (a b : Memory) → AreLoggingMoments u v a → HasLogged u v a b → AreLoggingMoments v w b → AreLoggingMoments u w a
 moments_then u v w a b first logged second = record {
   any_moment = λ c h is.
       then_more u v w (λ f. IsSite f (with_sequence c (take h c.sequence))) (λ f. IsSite f (with_sequence c (take h c.sequence))) (first.any_moment c h is) (second.any_moment c h (logged.stays_open true c h is)) (λ f q. q);
@@ -339,13 +339,13 @@ moments_then u v w a b first logged second = record {
       then_more u v w (λ f. HasLeft f (with_sequence c (take h c.sequence)) NO_LEFTOVER) (λ f. HasLeft f (with_sequence c (take h c.sequence)) NO_LEFTOVER) (first.bare c h is) (second.bare c h (logged.stays_open true c h is)) (λ f q. q);
 }
 
-pub frame_then : (u v w : View) (a b : OpenSite) → IsSameSite a b → OthersStay (IsOwnJournal a) u v → OthersStay (IsOwnJournal b) v w → OthersStay (IsOwnJournal a) u w
+pub frame_then : (u v w : View) (a b : Memory) → IsSameSite a b → OthersStay (IsOwnJournal a) u v → OthersStay (IsOwnJournal b) v w → OthersStay (IsOwnJournal a) u w
 frame_then u v w a b same first second =
     others_then (IsOwnJournal a) u v w first
     (subst (λ (i : Instance). OthersStay (IsNewestFile (generation i.records) (length (regions i.records))) v w) same.instance second)
 
 -- a part behind the images
-parts_same : (a b : OpenSite) (t : Transaction) → b.layout ≡ a.layout → b.entries ≡ a.entries → parts_of b t ≡ parts_of a t
+parts_same : (a b : Memory) (t : Transaction) → b.layout ≡ a.layout → b.entries ≡ a.entries → parts_of b t ≡ parts_of a t
 parts_same a b t layout entries =
     ap (λ (l : Layout). split (region_of_update l.directory.patterns) (entry_count b.entries + 1) (mask_of (region_of_update l.directory.patterns) t.updates) t) layout
     ∙ ap (λ (i : EntryIndex). split (region_by a) (entry_count i + 1) (mask_of (region_by a) t.updates) t) entries
@@ -358,7 +358,7 @@ part_then : (before : ℕ → List JournalRecord) (is : ℕ → List Before) (pa
 part_then before is part other same r =
     append_assoc (before r) (image_records (is r)) (listed (recorded (part r))) ∙ ap (λ (p : ℕ → Option Part). before r ++ (image_records (is r) ++ listed (recorded (p r)))) same
 
-pub appends_then : (u v w : View) (a b c : OpenSite) (t : Transaction) → HasLogged u v a b → AppendsPart v w b c t → Appends u w a c t
+pub appends_then : (u v w : View) (a b c : Memory) (t : Transaction) → HasLogged u v a b → AppendsPart v w b c t → Appends u w a c t
 appends_then u v w a b c t logged part hard waits keeps =
     let one = logged.waits hard waits keeps in (
       one.0,
@@ -393,7 +393,7 @@ in_one : (b : Bool) (is : List Before) → (if b then image_records is else []) 
 in_one true is = refl
 in_one false is = refl
 
-module _ (v w : View) (old new : OpenSite) (ready : IsReady v old) (journals : (g : ℕ) → AreReady v g old.journals.journals.items → AreReady w g new.journals.journals.items)
+module _ (v w : View) (old new : Memory) (ready : IsReady v old) (journals : (g : ℕ) → AreReady v g old.journals.journals.items → AreReady w g new.journals.journals.items)
     (count : length new.journals.journals.items ≡ length old.journals.journals.items) (moments : AppendMoments v w old.journals.journals.items)
     (stays : (g : ℕ) → AreReady v g old.journals.journals.items → OthersStay (IsNewestFile g (length old.journals.journals.items)) v w) (same : IsSameSite old new) (entries : new.entries ≡ old.entries) where
   -- without memory there is none

@@ -41,7 +41,7 @@ use Rattle.site_defs.specs.Epochs.{marked, with_epochs, MayMark, MayMarkLeft}
 use Rattle.site_defs.specs.Fronts.{with_sequence}
 use Rattle.site_defs.specs.Stands.{IsSite}
 use Rattle.site_defs.specs.Behind.{IsSiteWith}
-use Rattle.site_store.specs.declared.site.OpenSite.{OpenSite}
+use Rattle.site_store.specs.declared.memory.Memory.{Memory}
 use Rattle.site_store.specs.Needing.{without_behind, NoneNeeds}
 use Rattle.site_store.specs.Site.{Remembers, AreHeld, IsReady, AreOnBlocks, Keeps, IsOpen, IsSettled, count_of}
 use Rattle.site_store.proofs.Frames as frames
@@ -70,7 +70,7 @@ same_part : (ps qs : List Pattern) (r : ℕ) (g h : Globals) → ps ≡ qs → g
 same_part ps qs r g h p e = λ i. globals.retain_keys (e i) (λ k. region_of (p i) k.name == r)
 
 -- the journals and regions of a site that is open for calls
-pub together_of : (v : View) (s : OpenSite) → IsReady v s → IsTogether v (generation s.instance.records) s.journals.journals.items s.globals
+pub together_of : (v : View) (s : Memory) → IsReady v s → IsTogether v (generation s.instance.records) s.journals.journals.items s.globals
 together_of v s ready =
     let count = ready.regions.count in
     record {
@@ -81,7 +81,7 @@ together_of v s ready =
     }
 
 -- Before: an open site, all of whose entries are hardened, and in whose journals nothing waits.
-module _ (v : View) (c : Contents) (s : OpenSite) (k : Keeps v c (length c.sequence) s) (none : (r : ℕ) → k.waits r ≡ []) (m : Remembers c (length c.sequence) s) (ready : IsReady v s) (are : AreJoined s.globals) (lawful : IsLawful v) where
+module _ (v : View) (c : Contents) (s : Memory) (k : Keeps v c (length c.sequence) s) (none : (r : ℕ) → k.waits r ≡ []) (m : Remembers c (length c.sequence) s) (ready : IsReady v s) (are : AreJoined s.globals) (lawful : IsLawful v) where
   own : s.instance.records ≡ c.instance
   own = m.instance
 
@@ -145,16 +145,16 @@ module _ (v : View) (c : Contents) (s : OpenSite) (k : Keeps v c (length c.seque
   }
 
 -- At each moment of an epoch.
-abbrev pub EpochMoments : View → View → OpenSite → Type 0
+abbrev pub EpochMoments : View → View → Memory → Type 0
 EpochMoments v w s = (u : Records) (seq : Sequence) (g : ℕ) (newer : ℕ → List JournalRecord) → IsKept v u seq g newer s.journals.journals.items s.globals
     → length seq ≡ count_of s → AtEachMoment v w (OnlyIn v (IsEpochFile (suc g) (length s.journals.journals.items)) (IsStillSound u seq (suc g)))
 
 -- And behind it.
-abbrev pub EpochTaken : View → View → Bool → OpenSite → OpenSite → Type 0
+abbrev pub EpochTaken : View → View → Bool → Memory → Memory → Type 0
 EpochTaken v w closing s new = (u : Records) (seq : Sequence) (g : ℕ) (newer : ℕ → List JournalRecord) → IsKept v u seq g newer s.journals.journals.items s.globals
     → length seq ≡ count_of s → IsTaken w closing u seq g newer new.journals.journals.items new.globals
 
-module _ (v w : View) (c : Contents) (s : OpenSite) (k : Keeps v c (length c.sequence) s) (none : (r : ℕ) → k.waits r ≡ []) (mine : Remembers c (length c.sequence) s) (ready : IsReady v s) (are : AreJoined s.globals) (lawful : IsLawful v) (lawful_after : IsLawful w) where
+module _ (v w : View) (c : Contents) (s : Memory) (k : Keeps v c (length c.sequence) s) (none : (r : ℕ) → k.waits r ≡ []) (mine : Remembers c (length c.sequence) s) (ready : IsReady v s) (are : AreJoined s.globals) (lawful : IsLawful v) (lawful_after : IsLawful w) where
   few : length s.journals.journals.items ≤ 8
   few = ready.journals.few
 
@@ -191,7 +191,7 @@ module _ (v w : View) (c : Contents) (s : OpenSite) (k : Keeps v c (length c.seq
     marks_stands = reads_of w (λ f. (x : Contents) × MayMark c x × IsSite f x) lawful_after (holds_now v w (λ f. (x : Contents) × MayMark c x × IsSite f x) lawful_after marks_moments)
 
   -- Once all regions have their epochs.
-  module _ (closing : Bool) (new : OpenSite) (t : IsTaken w closing k.records c.sequence k.g k.newer new.journals.journals.items new.globals) (stays : OthersStay F v w) (same : HasSameNodes s.globals new.globals) (instance : new.instance ≡ s.instance) (entries : new.entries ≡ s.entries) where
+  module _ (closing : Bool) (new : Memory) (t : IsTaken w closing k.records c.sequence k.g k.newer new.journals.journals.items new.globals) (stays : OthersStay F v w) (same : HasSameNodes s.globals new.globals) (instance : new.instance ≡ s.instance) (entries : new.entries ≡ s.entries) where
     abbrev here_too : (r : ℕ) → Type 0
     here_too r = r < length (regions c.instance)
 
@@ -309,7 +309,7 @@ none_needs w closing s seq g newer js j t f now u held r here =
     (ap (λ (l : List InstanceRecord). first_without (t.records.journal r) (chosen l (length seq) (t.records.journal r))) t.more.instance
     ∙ ap (first_without (t.records.journal r)) (t.chosen_each r (omega (arith, here, size))))
 
-pub open_taken : (v w : View) (told closing : Bool) (c : Contents) (s new : OpenSite) → IsReady v s → AreJoined s.globals → IsLawful v → IsLawful w → EpochTaken v w closing s new
+pub open_taken : (v w : View) (told closing : Bool) (c : Contents) (s new : Memory) → IsReady v s → AreJoined s.globals → IsLawful v → IsLawful w → EpochTaken v w closing s new
     → ((g : ℕ) → AreReady v g s.journals.journals.items → OthersStay (IsEpochFile g (length s.journals.journals.items)) v w) → HasSameNodes s.globals new.globals
     → new.instance ≡ s.instance → new.entries ≡ s.entries → new.hardened ≡ s.hardened → IsSettled v told c s → IsOpen w told (marked c) (length c.sequence) new
 open_taken v w told closing c s new ready are lawful lawful_after taken stays same instance entries hardened o =
@@ -328,7 +328,7 @@ open_taken v w told closing c s new ready are lawful lawful_after taken stays sa
           (stays (suc k.g) (newest.are_ready v c (length c.sequence) s k ready m.instance)) same instance entries;
     }
 
-pub ready_taken : (v w : View) (s new : OpenSite) → IsReady v s → ((g : ℕ) → AreReady v g s.journals.journals.items → OthersStay (IsEpochFile g (length s.journals.journals.items)) v w)
+pub ready_taken : (v w : View) (s new : Memory) → IsReady v s → ((g : ℕ) → AreReady v g s.journals.journals.items → OthersStay (IsEpochFile g (length s.journals.journals.items)) v w)
     → ((g : ℕ) → IsTogether v g s.journals.journals.items s.globals → IsTogether w g new.journals.journals.items new.globals) → length new.journals.journals.items ≡ length s.journals.journals.items → HasSameNodes s.globals new.globals
     → new.instance ≡ s.instance → new.layout ≡ s.layout → new.entries ≡ s.entries → IsReady w new
 ready_taken v w s new ready stays together count same instance layout entries =

@@ -36,7 +36,7 @@ use Rattle.site_defs.specs.Contents.{Contents, Standing, NO_LEFTOVER}
 use Rattle.site_defs.specs.Behind.{left_of, text_left, AreKept, IsFrontLeft, IsSiteWith}
 use Rattle.site_defs.specs.Fronts.{with_sequence, IsFrontOf}
 use Rattle.site_defs.specs.Stands.{start_in, epoch_in, IsSite, HasLeft}
-use Rattle.site_store.specs.declared.site.OpenSite.{OpenSite}
+use Rattle.site_store.specs.declared.memory.Memory.{Memory}
 use Rattle.site_store.specs.Site.{IsReady, Keeps}
 use Rattle.site_store.proofs.Emptied.{none_left}
 use Rattle.site_store.proofs.Images.{AreOf, are_of, site_of, texts_same, losts_same, torn_same, left_nothing}
@@ -73,7 +73,7 @@ outside g n d f same file out = same file (λ is. out (record { region = is.regi
 first_few : (g n : ℕ) (hard waits : ℕ → List JournalRecord) (kept : ℕ → ℕ) (f : Files) → HasFirst g n hard waits kept f → fronts.HasFirst g n hard waits kept f
 first_few g n hard waits kept f first = record { each = first.each }
 
-module _ (v : View) (c : Contents) (h : ℕ) (s : OpenSite) (k : Keeps v c h s) (ready : IsReady v s) (own : s.instance.records ≡ c.instance) where
+module _ (v : View) (c : Contents) (h : ℕ) (s : Memory) (k : Keeps v c h s) (ready : IsReady v s) (own : s.instance.records ≡ c.instance) where
   -- the hardened records
   abbrev pub base : Records
   base = record { instance = c.instance; journal = k.records.journal }

@@ -33,7 +33,7 @@ use Rattle.site_defs.specs.Forward.{begun_mode, begun_as}
 use Rattle.site_defs.specs.Behind.{parts_of_each}
 use Rattle.site_defs.specs.Stands.{IsSite}
 use Rattle.region_store.specs.Joined.{joined, region_at}
-use Rattle.site_store.specs.declared.site.OpenSite.{OpenSite}
+use Rattle.site_store.specs.declared.memory.Memory.{Memory}
 use Rattle.site_store.specs.Site.{Remembers, Keeps, IsOpen, AreOnBlocks, AreOnFiles, StandOn, AreSynced, count_of}
 use Rattle.site_store.proofs.OnBlocks.{IsPlain, anew_or_not, held_same, on_same, on_more, on_chosen}
 use Rattle.site_store.proofs.Drawn.{S, C, cut_at, DrawsTo, newest_is, same_regions, site_read, site_drawn, newest_whole}
@@ -77,7 +77,7 @@ one_image w (Some files) Q some as_read = (files, as_read)
 module _ (anew : Bool) (v w : View) (rs : List InstanceRecord) (last : ℕ → ℕ) (journal : ℕ → List Placed) (seq : Sequence) (form : MayBeOpened rs last) (sequence : IsSequence (record { instance = rs; journal = journal }) seq) (lawful : IsLawful w)
     (reads : (f : Files) → Image v f → AreRead rs last journal f) (c : Contents) (stands : (f : Files) → Image v f → IsSite f c)
     (t : ℕ) (kept : Sequence) (size : length kept ≡ t) (broken : List ℕ) (draws : (f : Files) → Image v f → DrawsTo rs last journal seq form sequence anew f t kept broken)
-    (s : OpenSite) (records : s.instance.records ≡ rs ++ next_cut rs t ∷ []) (counted : count_of s ≡ length kept) (indexed : IsIndexOf journal (reigns rs) s.entries kept) (stand : (f : Files) → Image v f → (r : ℕ) → r < length (regions rs) → StandUpTo f r (generation rs) (journal r)) (hardened : s.hardened ≡ t)
+    (s : Memory) (records : s.instance.records ≡ rs ++ next_cut rs t ∷ []) (counted : count_of s ≡ length kept) (indexed : IsIndexOf journal (reigns rs) s.entries kept) (stand : (f : Files) → Image v f → (r : ℕ) → r < length (regions rs) → StandUpTo f r (generation rs) (journal r)) (hardened : s.hardened ≡ t)
     (begun : List Journal) (js_are : s.journals.journals.items ≡ map newly begun) where
   abbrev S0 : Records
   S0 = S rs last journal seq form sequence

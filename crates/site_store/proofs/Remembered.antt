@@ -7,10 +7,10 @@ use Rattle.std.proofs.lemmas.List.Concat.{flat_map-append}
 use Rattle.std.proofs.lemmas.List.Sums.{fold-append}
 use Rattle.global_defs.specs.Entry.{Update, Entry, Sequence, Globals, apply, state}
 use Rattle.site_defs.specs.Contents.{Contents}
-use Rattle.site_store.specs.declared.site.OpenSite.{OpenSite}
+use Rattle.site_store.specs.declared.memory.Memory.{Memory}
 use Rattle.site_store.specs.Site.{Remembers, count_of}
 
-pub remembered_length : (c : Contents) (h : ℕ) (s : OpenSite) → Remembers c h s → count_of s ≡ length c.sequence
+pub remembered_length : (c : Contents) (h : ℕ) (s : Memory) → Remembers c h s → count_of s ≡ length c.sequence
 remembered_length c h s r = r.count
 
 state_more : (es : Sequence) (e : Entry) → state (es ++ e ∷ []) ≡ fold apply (state es) e.transaction.updates

@@ -27,7 +27,7 @@ use Rattle.site_files.specs.Loading.{MayBeOpened, AreRead, HasDrawn, MayDraw, ne
 use Rattle.site_files.proofs.Keeping as keeping
 use Rattle.site_files.proofs.LostFiles.{lost_changed}
 use Rattle.region_store.specs.Joined.{joined}
-use Rattle.site_store.specs.declared.site.OpenSite.{OpenSite}
+use Rattle.site_store.specs.declared.memory.Memory.{Memory}
 use Rattle.site_store.specs.Site.{IsOpen, AreOnBlocks, AreSynced, count_of}
 use Rattle.site_store.proofs.Drawn.{S, text, cut_at, DrawsTo, site_read, site_drawn, left_drawn, standing_may}
 use Rattle.site_store.proofs.Images.{losts_same, texts_same, torn_same}
@@ -85,7 +85,7 @@ module _ (rs : List InstanceRecord) (last : ℕ → ℕ) (journal : ℕ → List
 
   -- the open site: all images stood for c at v, and it was drawn at w
   pub open_cut : (v w : View) → IsLawful w → (reads : (f : Files) → Image v f → AreRead rs last journal f) (c : Contents) (stands : (f : Files) → Image v f → IsSite f c)
-      → (s : OpenSite) → s.instance.records ≡ rs ++ next_cut rs t ∷ [] → count_of s ≡ length kept → IsIndexOf journal (reigns rs) s.entries kept
+      → (s : Memory) → s.instance.records ≡ rs ++ next_cut rs t ∷ [] → count_of s ≡ length kept → IsIndexOf journal (reigns rs) s.entries kept
       → ((f : Files) → Image v f → (r : ℕ) → r < length (regions rs) → StandUpTo f r (generation rs) (journal r)) → s.hardened ≡ t
       → (begun : List Journal) → s.journals.journals.items ≡ map newly begun
       → AreSynced v many → ((f : Files) → Image v f → AreOnBlocks f (S rs last journal seq form sequence) t s.globals) → joined s.globals ≡ state kept

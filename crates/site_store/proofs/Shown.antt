@@ -21,7 +21,7 @@ use Rattle.entry_index.proofs.Rows.{past_rows}
 use Rattle.entry_index.proofs.AmongLaws.{counted}
 use Rattle.site_defs.specs.Contents.{Contents}
 use Rattle.site_store.specs.declared.error.SiteError.{SiteError}
-use Rattle.site_store.specs.declared.site.OpenSite.{OpenSite}
+use Rattle.site_store.specs.declared.memory.Memory.{Memory}
 use Rattle.site_store.specs.Site.{IsReady, IsOpen}
 use Rattle.site_store.proofs.Indexed.{index_files}
 use Rattle.site_store.proofs.Standing.{told_of}
@@ -85,7 +85,7 @@ module _ (o : Option Files) (rs : List Reign) (x : EntryIndex) (n : ℕ) (first 
         weaker_told o (λ files. (seq : Sequence) → Indexes (InFiles files) rs x seq → option_map entry_value found ≡ slice_get seq (n - 1)) (λ files. (seq : Sequence) → Indexes (InFiles files) rs x seq → ⊥) told
         (λ files is_found seq is. is_among files rs x seq n first is low (ap (option_map entry_value) (sym none) ∙ is_found seq is))
 
-module _ (v : View) (s : OpenSite) (history : List Reign) (lawful : IsLawful v) (ready : IsReady v s) (own : history ≡ reigns s.instance.records) where
+module _ (v : View) (s : Memory) (history : List Reign) (lawful : IsLawful v) (ready : IsReady v s) (own : history ≡ reigns s.instance.records) where
   -- the parts of its entries stand in the files
   indexed : (c : Contents) (h : ℕ) → IsOpen v true c h s → IfSome v.content (λ files. Indexes (InFiles files) history s.entries c.sequence)
   indexed c h site =

@@ -12,7 +12,7 @@ use Rattle.region_journals.specs.Journals.{KeepsJournals}
 use Rattle.site_defs.specs.Contents.{Contents}
 use Rattle.site_defs.specs.Fronts.{with_sequence}
 use Rattle.site_defs.specs.Stands.{IsSite}
-use Rattle.site_store.specs.declared.site.OpenSite.{OpenSite}
+use Rattle.site_store.specs.declared.memory.Memory.{Memory}
 use Rattle.region_store.specs.Joined.{AreChanged}
 use Rattle.site_store.specs.Committing.{IsSameIndex}
 use Rattle.site_store.specs.Site.{Keeps, IsOpen}
@@ -21,7 +21,7 @@ use Rattle.site_store.proofs.Places.{same_index}
 use Rattle.journal_defs.specs.Surviving.{reigns}
 
 -- with all of its entries hardened, each image stands for its contents
-pub images_stand : (v : View) (c : Contents) (s : OpenSite) → IsOpen v true c (length c.sequence) s → (f : Files) → Image v f → IsSite f c
+pub images_stand : (v : View) (c : Contents) (s : Memory) → IsOpen v true c (length c.sequence) s → (f : Files) → Image v f → IsSite f c
 images_stand v c s is f i = subst (λ seq. IsSite f (with_sequence c seq)) (take-length c.sequence) ((is.kept refl).images f i)
 
 -- as it reads
@@ -35,7 +35,7 @@ reads_so w P lawful told images = among w.content told (reads_of w P lawful imag
     among None t h = absurd (cc t)
     among (Some f) t h = h
 
-pub told_of : (v : View) (c : Contents) (n : ℕ) (s : OpenSite) → Keeps v c n s → IsSome v.content
+pub told_of : (v : View) (c : Contents) (n : ℕ) (s : Memory) → Keeps v c n s → IsSome v.content
 told_of v c n s k = among v.content k.reads
   where
     among : (o : Option Files) → IsSomeAnd o (λ files. IsSite files (with_sequence c (take n c.sequence))) → IsSome o
@@ -59,7 +59,7 @@ read_image v lawful told = among v.content told lawful.as_read
     among (Some files) t i = (files, refl, i)
 
 -- where each image is one from before
-pub keeps_images : (v w : View) (c : Contents) (h : ℕ) (old new : OpenSite) (k : Keeps v c h old) → IsLawful w → IsSome w.content → ((f : Files) → Image w f → Image v f) → instances.HasRecords w new.instance c.instance
+pub keeps_images : (v w : View) (c : Contents) (h : ℕ) (old new : Memory) (k : Keeps v c h old) → IsLawful w → IsSome w.content → ((f : Files) → Image w f → Image v f) → instances.HasRecords w new.instance c.instance
     → KeepsJournals w k.newer k.waits new.journals.journals.items → AreChanged old.globals new.globals → IsSameIndex old.entries new.entries → Keeps w c h new
 keeps_images v w c h old new k lawful told from instance journals changed entries = record {
   count = k.count;

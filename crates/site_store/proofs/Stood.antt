@@ -19,7 +19,7 @@ use Rattle.site_defs.specs.Contents.{Contents, Leftover}
 use Rattle.site_defs.specs.Stands.{IsSite, HasLeft}
 use Rattle.site_defs.specs.Forward.{opened_as}
 use Rattle.site_store.specs.declared.preparing.StandingSite.{StandingSite}
-use Rattle.site_store.specs.declared.site.OpenSite.{OpenSite}
+use Rattle.site_store.specs.declared.memory.Memory.{Memory}
 use Rattle.site_store.specs.Finding.{HasLayout}
 use Rattle.region_store.specs.Joined.{joined}
 use Rattle.site_store.specs.Opening.{EachStands, AreTextsDurable, AreDatabasesDurable}
@@ -113,7 +113,7 @@ module _ (anew : Bool) (u v w : View) (k : StandingSite) (st : Stood anew u v k)
   pub room : IfSome u.content (λ files. (qs : List InstanceRecord) → IsInstance (files INSTANCE) qs → generation qs < 65534)
   room = told_then u.content Given (λ files. (qs : List InstanceRecord) → IsInstance (files INSTANCE) qs → generation qs < 65534) st.told (λ files told x. room_in files told x)
 
-  module _ (s : OpenSite) (records : s.instance.records ≡ rs ++ next_cut rs n ∷ []) (entries : s.entries ≡ k.entries) (globals : s.globals ≡ k.globals) (hardened : s.hardened ≡ n) (stamp : s.stamp ≡ None) where
+  module _ (s : Memory) (records : s.instance.records ≡ rs ++ next_cut rs n ∷ []) (entries : s.entries ≡ k.entries) (globals : s.globals ≡ k.globals) (hardened : s.hardened ≡ n) (stamp : s.stamp ≡ None) where
     counts : count_of s ≡ n
     counts = ap entry_count entries ∙ sym n_is
 

@@ -24,7 +24,7 @@ use Rattle.instance_file.specs.Instance as instances
 use Rattle.site_defs.specs.Fronts.{with_sequence}
 use Rattle.site_defs.specs.Stands.{IsSite}
 use Rattle.site_defs.specs.Contents.{Contents}
-use Rattle.site_store.specs.declared.site.OpenSite.{OpenSite}
+use Rattle.site_store.specs.declared.memory.Memory.{Memory}
 use Rattle.site_store.proofs.HeldRegions.{held_read, synced_stays}
 use Rattle.disk_defs.proofs.Frames.{others_read}
 use Rattle.site_store.specs.Site.{IsReady, Keeps, IsOpen, AreOnBlocks}
@@ -86,7 +86,7 @@ journals_read v w g js r h = record {
   each = λ k x there. let o = h.each k x there in record { ready = journal_read v w x.journal r o.ready; of = o.of; goes_on = o.goes_on };
 }
 
-pub site_read : (v w : View) (s : OpenSite) → Reads v w → IsReady v s → IsReady w s
+pub site_read : (v w : View) (s : Memory) → Reads v w → IsReady v s → IsReady w s
 site_read v w s r h = record { instance = instance_read v w s.instance r h.instance; layout = h.layout; journals = journals_read v w (generation s.instance.records) s.journals.journals.items r h.journals; each_region = h.each_region; regions = held_read v w (length (regions s.instance.records)) s.globals r h.regions; whole = h.whole; some_place = h.some_place; each_place = h.each_place; few = h.few }
 
 journals_kept : (v w : View) (hard waiting : ℕ → List JournalRecord) (js : List RegionJournal) → Reads v w → KeepsJournals v hard waiting js → KeepsJournals w hard waiting js
@@ -99,7 +99,7 @@ journals_kept v w hard waiting js r h = record {
 image_read : (v w : View) (P : Files → Type 0) → Reads v w → ((f : Files) → Image v f → P f) → (f : Files) → Image w f → P f
 image_read v w P r h f i = let k = r.passes.images f i in subst P (sym k.2) (h k.0 k.1)
 
-keeps_read : (v w : View) (c : Contents) (n : ℕ) (s : OpenSite) → Reads v w → Keeps v c n s → Keeps w c n s
+keeps_read : (v w : View) (c : Contents) (n : ℕ) (s : Memory) → Reads v w → Keeps v c n s → Keeps w c n s
 keeps_read v w c n s r h = record {
   count = h.count;
   few_nodes = h.few_nodes;
@@ -130,5 +130,5 @@ keeps_read v w c n s r h = record {
   journal_files = journals_kept v w h.newer h.waits s.journals.journals.items r h.journal_files;
 }
 
-pub open_read : (v w : View) (told : Bool) (c : Contents) (n : ℕ) (s : OpenSite) → Reads v w → IsOpen v told c n s → IsOpen w told c n s
+pub open_read : (v w : View) (told : Bool) (c : Contents) (n : ℕ) (s : Memory) → Reads v w → IsOpen v told c n s → IsOpen w told c n s
 open_read v w told c n s r h = record { remembered = h.remembered; kept = λ yes. keeps_read v w c n s r (h.kept yes) }

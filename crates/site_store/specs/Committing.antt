@@ -11,7 +11,7 @@ use Rattle.tp_commit.specs.Parts.{PartRecords, recorded}
 use Rattle.region_journals.specs.Fronts.{IsNewestFile}
 use Rattle.region_journals.specs.Journals.{KeepsJournals, part_in, listed}
 use Rattle.region_store.specs.Joined.{joined, AreChanged}
-use Rattle.site_store.specs.declared.site.OpenSite.{OpenSite}
+use Rattle.site_store.specs.declared.memory.Memory.{Memory}
 use Rattle.site_store.specs.Site.{count_of, IsReady, IsOpen}
 use Rattle.site_defs.specs.Contents.{Contents, NO_LEFTOVER}
 use Rattle.site_defs.specs.Fronts.{with_sequence}
@@ -46,20 +46,20 @@ pub record IsSameIndex (old new : EntryIndex) : Type 0 where
   pub places : new.places.items ≡ old.places.items
 
 -- its places are in the index, and its updates are made
-pub record Enters (old new : OpenSite) (t : code_transaction.Transaction) (parts : PartRecords) : Type 0 where
+pub record Enters (old new : Memory) (t : code_transaction.Transaction) (parts : PartRecords) : Type 0 where
   pub places : AddsPlaces parts new.journals.journals.items old.entries new.entries
   pub globals : joined new.globals ≡ fold apply (joined old.globals) t.updates
   pub changed : AreChanged old.globals new.globals
 
 -- what doesn't change when an entry comes
-pub record IsSameSite (old new : OpenSite) : Type 0 where
+pub record IsSameSite (old new : Memory) : Type 0 where
   pub instance : new.instance ≡ old.instance
   pub layout : new.layout ≡ old.layout
   pub hardened : new.hardened ≡ old.hardened
   pub stamp : new.stamp ≡ old.stamp
 
 -- and when none comes
-pub record IsSameMemory (old new : OpenSite) : Type 0 where
+pub record IsSameMemory (old new : Memory) : Type 0 where
   pub same : IsSameSite old new
   pub entries : IsSameIndex old.entries new.entries
   pub globals : joined new.globals ≡ joined old.globals
@@ -67,35 +67,35 @@ pub record IsSameMemory (old new : OpenSite) : Type 0 where
   pub nodes : HasSameNodes old.globals new.globals
 
 -- the file of one of a site's newest journals
-abbrev pub IsOwnJournal : OpenSite → ℕ → Type 0
+abbrev pub IsOwnJournal : Memory → ℕ → Type 0
 IsOwnJournal s = IsNewestFile (generation s.instance.records) (length (regions s.instance.records))
 
 -- the region of an update, by a site's directory
-abbrev pub region_by : OpenSite → Update → ℕ
+abbrev pub region_by : Memory → Update → ℕ
 region_by s = region_of_update s.layout.directory.patterns
 
 -- the parts of a transaction as the next entry of a site
-abbrev pub parts_of : OpenSite → Transaction → ℕ → Option Part
+abbrev pub parts_of : Memory → Transaction → ℕ → Option Part
 parts_of s t = split (region_by s) (count_of s + 1) (mask_of (region_by s) t.updates) t
 
 -- These are the records of those parts, each in its region.
-pub record ArePartsOf (s : OpenSite) (t : Transaction) (parts : PartRecords) : Type 0 where
+pub record ArePartsOf (s : Memory) (t : Transaction) (parts : PartRecords) : Type 0 where
   pub each : (r : ℕ) → r < 8 → part_in parts r ≡ recorded (parts_of s t r)
   pub is_split : IsSplit (region_by s) (mask_of (region_by s) t.updates) t
   pub no_other : (r : ℕ) → s.layout.directory.regions ≤ r → parts_of s t r ≡ None
 
 -- Behind what waits in each region stands exactly the record of its part of the transaction, and nothing more where it has none.
-abbrev pub AppendsPart : View → View → OpenSite → OpenSite → Transaction → Type 0
+abbrev pub AppendsPart : View → View → Memory → Memory → Transaction → Type 0
 AppendsPart u v old new t = (hard waiting : ℕ → List JournalRecord) → KeepsJournals u hard waiting old.journals.journals.items
     → KeepsJournals v hard (λ r. waiting r ++ listed (recorded (parts_of old t r))) new.journals.journals.items
 
 -- The same, behind images of the region's blocks.
-abbrev pub Appends : View → View → OpenSite → OpenSite → Transaction → Type 0
+abbrev pub Appends : View → View → Memory → Memory → Transaction → Type 0
 Appends u v old new t = (hard waiting : ℕ → List JournalRecord) → KeepsJournals u hard waiting old.journals.journals.items
     → (images : ℕ → List Before) × KeepsJournals v hard (λ r. waiting r ++ (image_records (images r) ++ listed (recorded (parts_of old t r)))) new.journals.journals.items
 
 -- Images of blocks wait besides, and nothing else is new of a site.
-pub record HasLogged (u v : View) (old new : OpenSite) : Type 0 where
+pub record HasLogged (u v : View) (old new : Memory) : Type 0 where
   pub ready : IsReady v new
   pub same : IsSameSite old new
   pub entries : new.entries ≡ old.entries
@@ -106,6 +106,6 @@ pub record HasLogged (u v : View) (old new : OpenSite) : Type 0 where
   pub stays_open : (told : Bool) (c : Contents) (h : ℕ) → IsOpen u told c h old → IsOpen v told c h new
 
 -- At each moment of a call that logs images the files stand for the hardened entries, and nothing lies behind them.
-pub record AreLoggingMoments (u v : View) (old : OpenSite) : Type 0 where
+pub record AreLoggingMoments (u v : View) (old : Memory) : Type 0 where
   pub any_moment : (c : Contents) (h : ℕ) → IsOpen u true c h old → AtEachMoment u v (λ f. IsSite f (with_sequence c (take h c.sequence)))
   pub bare : (c : Contents) (h : ℕ) → IsOpen u true c h old → AtEachMoment u v (λ f. HasLeft f (with_sequence c (take h c.sequence)) NO_LEFTOVER)

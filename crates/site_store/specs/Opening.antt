@@ -5,7 +5,6 @@ use Rattle.journal_defs.specs.Numbers.{lost_file, broken_file, database_file}
 use Rattle.journal_defs.specs.Instance as records
 use Rattle.journal_defs.specs.Instance.{NamedMode}
 use Rattle.site_defs.specs.Contents.{Contents, Standing}
-use Rattle.site_defs.specs.Opening.{with_pattern}
 use Rattle.site_defs.specs.Forward.{MayOpenAs, MayOpenAsLeft}
 use Rattle.site_defs.specs.Stands.{IsBlank, IsSite, Stands}
 use Rattle.site_defs.specs.Behind.{IsStanding}
@@ -21,14 +20,6 @@ made name regions = record { instance = records.Create name (map region_value re
 -- An image from before the call, in which a blank disk may be that of the new site.
 abbrev pub MayMake : View → List ℕ → List RegionSpec → Files → Type 0
 MayMake old name regions = From (Image old) (λ was now. IsBlank was → IsBlank now ⊎ IsSite now (made name regions))
-
--- an image from before the call, with other bytes perhaps, that stands for the same
-abbrev pub StandsAsBefore : View → Files → Type 0
-StandsAsBefore old = From (Image old) (λ was now. (c : Contents) → Stands was c → Stands now c)
-
--- an image from before the call, whose site may have the pattern
-abbrev pub MayHavePattern : View → ℕ → List ℕ → Files → Type 0
-MayHavePattern old region text = From (Image old) (λ was now. (c : Contents) → Stands was c → Stands now c ⊎ IsSite now (with_pattern region text c))
 
 -- an image from before the call, whose site may have been opened, with this text of what is broken: with its regions anew, or on their blocks
 abbrev pub MayBeOpenAs : (anew : Bool) → View → List ℕ → Files → Type 0

@@ -3,20 +3,33 @@ use Rattle.std.specs.Prelude.{◌≡◌, ◌⊎◌, ℕ, Bool, Some, None, Resul
 use Rattle.disk_defs.specs.Disk.{View}
 use Rattle.gvn_model.specs.declared.history.History.{History}
 use Rattle.journal_defs.specs.Surviving.{reigns}
+use Rattle.mupip_recover.specs.Stamps.{AreStarts}
 use Rattle.site_defs.specs.Contents.{Contents}
 use Rattle.site_store.specs.declared.error.SiteError.{SiteError}
 use Rattle.site_defs.specs.Epochs.{MayMark}
 use Rattle.site_defs.specs.Fronts.{IsFrontOf}
-use Rattle.site_store.specs.declared.owning.Site.{Site}
-use Rattle.site_store.specs.declared.site.OpenSite.{OpenSite}
+use Rattle.site_store.specs.declared.site.Site.{Site}
+use Rattle.site_store.specs.declared.memory.Memory.{Memory}
 use Rattle.site_store.specs.Site.{IsReady, IsOpen, count_of}
+
+-- its disk
+abbrev pub disk_of : {D : Type 0} → Site D → D
+disk_of s = s.disk
+
+-- what it has in memory
+abbrev pub memory_of : {D : Type 0} → Site D → Memory
+memory_of s = s.inner
+
+-- no call failed
+abbrev pub GoesOn : {D : Type 0} → Site D → Type 0
+GoesOn s = s.fault ≡ None
 
 -- a call failed, the one of that number on the disk
 abbrev pub HasStopped : {D : Type 0} → ℕ → Site D → Type 0
 HasStopped fault s = s.fault ≡ Some fault
 
 -- its history: how many entries there are, and the reigns that no later CUT dropped
-pub record HasHistory (s : OpenSite) (h : History) : Type 0 where
+pub record HasHistory (s : Memory) (h : History) : Type 0 where
   pub count : h.length ≡ count_of s
   pub surviving : h.reigns ≡ reigns s.instance.records
 
@@ -25,10 +38,11 @@ pub record IsGoing {D : Type 0} (view : D → View) (s : Site D) : Type 0 where
   pub fault : s.fault ≡ None
   pub files : IsReady (view s.disk) s.inner
   pub history : HasHistory s.inner s.history
+  pub starts : AreStarts (reigns s.inner.instance.records) s.starts.items
 
 -- it has stopped, or it goes on
 abbrev pub MayBeCalled : {D : Type 0} → (D → View) → Site D → Type 0
-MayBeCalled view s = s.fault ≡ None → IsGoing view s
+MayBeCalled view s = GoesOn s → IsGoing view s
 
 -- No call failed, and over its own disk the site is open with these contents, of which so many entries are hardened.
 pub record IsOpenSite {D : Type 0} (view : D → View) (told : Bool) (c : Contents) (hardened : ℕ) (s : Site D) : Type 0 where

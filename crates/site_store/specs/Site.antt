@@ -36,15 +36,15 @@ use Rattle.entry_index.specs.Order.{StandUpTo}
 use Rattle.entry_index.specs.Found.{entry_count, IsWhole}
 use Rattle.entry_index.specs.Among.{IsIndexOf}
 use Rattle.site_store.specs.Finding.{HasLayout}
-use Rattle.site_store.specs.declared.site.OpenSite.{OpenSite}
+use Rattle.site_store.specs.declared.memory.Memory.{Memory}
 
 -- how many entries an open site has
-abbrev pub count_of : OpenSite → ℕ
+abbrev pub count_of : Memory → ℕ
 count_of s = entry_count s.entries
 
 -- What a site has in memory, whatever its disk tells: the records of its instance file, places of as many entries as these, and the globals
 -- that these lead to. How many are hardened is known too.
-pub record Remembers (c : Contents) (h : ℕ) (s : OpenSite) : Type 0 where
+pub record Remembers (c : Contents) (h : ℕ) (s : Memory) : Type 0 where
   pub instance : s.instance.records ≡ c.instance
   pub count : count_of s ≡ length c.sequence
   pub globals : joined s.globals ≡ state c.sequence
@@ -57,7 +57,7 @@ pub record AreHeld (v : View) (n : ℕ) (j : Joined) : Type 0 where
   pub held : (r : ℕ) → r < n → IfSome v.content (IsHeld (region_at j r))
 
 -- Its files are open for calls, and its layout is that of its instance file.
-pub record IsReady (v : View) (s : OpenSite) : Type 0 where
+pub record IsReady (v : View) (s : Memory) : Type 0 where
   pub instance : instances.IsReady v s.instance
   pub layout : HasLayout s.instance.records s.layout
   pub journals : AreReady v (generation s.instance.records) s.journals.journals.items
@@ -121,7 +121,7 @@ pub record AreWaiting (instance : List InstanceRecord) (g : ℕ) (parts : List (
 
 -- On the disk, where its files are known: they stand for the first entries, the hardened ones, in each image, and the others stand
 -- behind closed gates of the newest journals.
-pub record Keeps (v : View) (c : Contents) (hardened : ℕ) (s : OpenSite) : Type 0 where
+pub record Keeps (v : View) (c : Contents) (hardened : ℕ) (s : Memory) : Type 0 where
   pub count : hardened ≤ length c.sequence
   pub few_nodes : HasFewNodes c.sequence
   pub reads : IsSomeAnd v.content (λ files. IsSite files (with_sequence c (take hardened c.sequence)))
@@ -156,17 +156,17 @@ pub record Keeps (v : View) (c : Contents) (hardened : ℕ) (s : OpenSite) : Typ
   pub journal_files : KeepsJournals v newer waits s.journals.journals.items
 
 -- The site is open: it has these contents, of which so many entries are hardened, and where its files are known they are on the disk.
-pub record IsOpen (v : View) (told : Bool) (c : Contents) (hardened : ℕ) (s : OpenSite) : Type 0 where
+pub record IsOpen (v : View) (told : Bool) (c : Contents) (hardened : ℕ) (s : Memory) : Type 0 where
   pub remembered : Remembers c hardened s
   pub kept : IsTrue told → Keeps v c hardened s
 
 -- So it is with all entries hardened, and nothing waits in its journals.
-pub record IsSettled (v : View) (told : Bool) (c : Contents) (s : OpenSite) : Type 0 where
+pub record IsSettled (v : View) (told : Bool) (c : Contents) (s : Memory) : Type 0 where
   pub is : IsOpen v told c (length c.sequence) s
   pub none_waits : (known : IsTrue told) (r : ℕ) → (is.kept known).waits r ≡ []
 
 -- The site was opened, and nothing was done since: it has a name, all entries are hardened, and no reign has begun past them.
-pub record WasOpened (s : OpenSite) : Type 0 where
+pub record WasOpened (s : Memory) : Type 0 where
   pub created : 0 < length s.instance.records
   pub name : IsSiteName (site_name s.instance.records)
   pub hardened : s.hardened ≡ count_of s
@@ -176,13 +176,13 @@ pub record WasOpened (s : OpenSite) : Type 0 where
 
 -- It was opened from these records, which stand for this sequence: it has the places of its entries among them, and its instance file's
 -- records are theirs and the CUT at its length.
-pub record WasOpenedFrom (u : Records) (seq : Sequence) (s : OpenSite) : Type 0 where
+pub record WasOpenedFrom (u : Records) (seq : Sequence) (s : Memory) : Type 0 where
   pub count : count_of s ≡ length seq
   pub indexed : IsIndexOf u.journal (reigns u.instance) s.entries seq
   pub instance : s.instance.records ≡ u.instance ++ Cut (length seq) (generation u.instance + 1) ∷ []
 
 -- a reign was begun
-pub record HasReign (s : OpenSite) : Type 0 where
+pub record HasReign (s : Memory) : Type 0 where
   pub stamp : Stamp
   pub is : s.stamp ≡ Some stamp
   -- it covers the entries to come

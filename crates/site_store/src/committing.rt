@@ -1,32 +1,27 @@
 //! Giving a site entries.
-ghost use Rattle.std.specs.Prelude.{◌≡◌, ◌⊎◌, ◌≤◌, ◌<◌, ◌+◌, ◌^◌, ℕ, List, Bool, true, length, take, IfOk, IfSome, OnOk, OnErr, IsErrOf, IsSome};
+ghost use Rattle.std.specs.Prelude.{◌≡◌, ◌⊎◌, ◌<◌, ◌+◌, ◌^◌, ℕ, List, Bool, true, take, IfOk, IfSome, OnOk, OnErr, IsErrOf, IsSome};
 ghost use Rattle.disk_defs.specs.Disk.{Image, AtEachMoment, MayFail};
 ghost use Rattle.global_defs.specs.Fields.{IsTransaction};
 ghost use Rattle.gvn_model.specs.Entries.{transaction_value};
-ghost use Rattle.site_defs.specs.Contents.{Contents, Standing, NO_LEFTOVER};
-ghost use Rattle.site_defs.specs.Behind.{IsFrontLeft, IsSiteWith};
-ghost use Rattle.site_defs.specs.Fronts.{with_sequence, IsFrontOf};
+ghost use Rattle.site_defs.specs.Contents.{Contents, NO_LEFTOVER};
+ghost use Rattle.site_defs.specs.Fronts.{with_sequence};
 ghost use Rattle.site_defs.specs.Stands.{IsSite, HasLeft};
 ghost use Rattle.disk_defs.specs.Frames.{OthersStay};
 ghost use Rattle.journal_defs.specs.Journal.{JournalRecord};
 ghost use Rattle.region_journals.specs.Journals.{ArePrepared, KeepsJournals};
 ghost use Rattle.region_store.specs.Joined.{joined, AreChanged};
-ghost use Rattle.site_store.specs.Committing.{Appends, AppendsPart, Enters, IsSameSite, IsSameMemory, IsOwnJournal, ArePartsOf};
+ghost use Rattle.site_store.specs.Committing.{AppendsPart, Enters, IsSameSite, IsSameMemory, IsOwnJournal, ArePartsOf};
 ghost use Rattle.site_store.specs.Site.{IsReady, IsOpen, HasReign, HasRoomFor, count_of, with_entry};
 
 use crate::error::SiteError;
-use crate::fitting::check_room;
-use crate::site::OpenSite;
+use crate::memory::Memory;
 use gvn_key::NoMemory;
 use gvn_model::Transaction;
 use repl_disk::Disk;
 use std::alloc::Global;
 use tp_commit::{PartRecords, entry_records};
 
-/// The last number that an entry may have.
-const LAST_NUMBER: u64 = (1 << 40) - 1;
-
-impl OpenSite {
+impl Memory {
     /// Takes all memory and room for a transaction as the next entry, adds where its parts will stand, and makes its updates. Without
     /// memory nothing has changed but what room there is.
     fn prepare<D: Disk>(
@@ -60,7 +55,7 @@ impl OpenSite {
 
     /// Makes a transaction the next entry, for which there is room: takes all memory, and then appends its parts. The images of the blocks
     /// that it changes wait already.
-    fn enter<D: Disk>(
+    pub(crate) fn enter<D: Disk>(
         &mut self,
         alloc: Global,
         disk: &mut D,
@@ -93,92 +88,6 @@ impl OpenSite {
         let parts = self.prepare(alloc, disk, t)?;
         match self.journals.append(disk, &parts) {
             Ok(()) => Ok(self.entries.len()),
-            Err(_) => Err(SiteError::Failed {
-                fault: disk.faults(),
-            }),
-        }
-    }
-
-    /// Makes a transaction the next entry, under the reign that was begun: appends to the journal of each region the images of
-    /// the blocks that it's about to change first behind the region's epoch, takes all memory, and then appends exactly the updates that it has
-    /// there. It answers the entry's number. The entry is on the disk for good once it's hardened.
-    ///
-    /// # Errors
-    /// `Full` exactly where more than 100,000 nodes would stand after one of its updates, `SeqLimit` exactly where the last number
-    /// is used up, and `NoMemory`: nothing has changed after these three, but that there may be more room and, after
-    /// the last one, that images may wait. `Failed` only where the
-    /// disk's count rose; the site is of no more use then.
-    pub fn commit<D: Disk>(
-        &mut self,
-        alloc: Global,
-        disk: &mut D,
-        t: &Transaction,
-    ) -> Result<u64, SiteError>
-        requires ready { IsReady (D.disk disk.old) self.old }
-        requires form { IsTransaction (transaction_value t.now) }
-        requires reign { HasReign self.old }
-        ensures ready { OnOk result (IsReady (D.disk disk.new) self.new) }
-        ensures done { OnOk result ((told : Bool) (c : Contents) (h : ℕ) → IsOpen (D.disk disk.old) told c h self.old → IsOpen (D.disk disk.new) told (with_entry self.old.stamp (transaction_value t.now) c) h self.new) }
-        ensures appended { OnOk result (Appends (D.disk disk.old) (D.disk disk.new) self.old self.new (transaction_value t.now)) }
-        ensures number { IfOk result (λ n. n ≡ count_of self.old + 1) }
-        ensures grown { OnOk result (count_of self.new ≡ count_of self.old + 1) }
-        ensures instance { self.new.instance ≡ self.old.instance }
-        ensures stamp { self.new.stamp ≡ self.old.stamp }
-        ensures reign { OnOk result (HasReign self.new) }
-        ensures room { OnOk result (count_of self.old + 1 < 2 ^ 40) }
-        ensures fits { OnOk result (HasRoomFor (joined self.old.globals) t.now.updates) }
-        ensures full { (nodes : ℕ) → IsErrOf result (SiteError.Full nodes) → HasRoomFor (joined self.old.globals) t.now.updates → ⊥ }
-        ensures last { IsErrOf result SiteError.SeqLimit → 2 ^ 40 ≤ count_of self.old + 1 }
-        ensures kept { ((nodes : ℕ) × IsErrOf result (SiteError.Full nodes)) ⊎ IsErrOf result SiteError.SeqLimit → (disk.new ≡ disk.old) × (self.new ≡ self.old) }
-        ensures unmade { IsErrOf result SiteError.NoMemory → IsSameMemory self.old self.new }
-        ensures goes_on { IsErrOf result SiteError.NoMemory → IsReady (D.disk disk.new) self.new }
-        ensures stays_open { IsErrOf result SiteError.NoMemory → (told : Bool) (c : Contents) (h : ℕ) → IsOpen (D.disk disk.old) told c h self.old → IsOpen (D.disk disk.new) told c h self.new }
-        ensures any_moment { (c : Contents) (h : ℕ) → IsOpen (D.disk disk.old) true c h self.old → AtEachMoment (D.disk disk.old) (D.disk disk.new) (λ f. IsSite f (with_sequence c (take h c.sequence))) }
-        ensures bare { (c : Contents) (h : ℕ) → IsOpen (D.disk disk.old) true c h self.old → AtEachMoment (D.disk disk.old) (D.disk disk.new) (λ f. HasLeft f (with_sequence c (take h c.sequence)) NO_LEFTOVER) }
-        ensures stands { (c : Contents) (h : ℕ) → IsOpen (D.disk disk.old) true c h self.old → IfSome (D.disk disk.new).content (λ f. IsSite f (with_sequence c (take h c.sequence))) }
-        ensures still_told { IsSome (D.disk disk.old).content → IsSome (D.disk disk.new).content }
-        ensures simulated { (D.disk disk.new).simulated ≡ (D.disk disk.old).simulated }
-        ensures faults { MayFail (D.disk disk.old).faults (D.disk disk.new).faults (λ fault. IsErrOf result (SiteError.Failed fault)) }
-        ensures no_stop { (fault : ℕ) → IsErrOf result (SiteError.Stopped fault) → ⊥ }
-        ensures no_other { IsErrOf result SiteError.GenLimit ⊎ IsErrOf result SiteError.ReignLimit ⊎ ((region : ℕ) × IsErrOf result (SiteError.NeedForward region)) ⊎ ((file : ℕ) × (offset : ℕ) × IsErrOf result (SiteError.NotAFile file offset)) → ⊥ }
-    {
-        if LAST_NUMBER <= self.entries.len() {
-            return Err(SiteError::SeqLimit);
-        }
-        check_room(alloc, &self.globals, &t.updates)?;
-        self.log_all_touched(alloc, disk, t.updates.as_slice())?;
-        self.enter(alloc, disk, t)
-    }
-
-    /// Puts all entries on the disk for good, and answers how many there are. It takes no memory.
-    ///
-    /// # Errors
-    /// `Failed` only where the disk's count rose. Of the entries that weren't hardened a crash may then find the first few.
-    pub fn harden<D: Disk>(&mut self, disk: &mut D) -> Result<u64, SiteError>
-        requires ready { IsReady (D.disk disk.old) self.old }
-        ensures ready { OnOk result (IsReady (D.disk disk.new) self.new) }
-        ensures done { OnOk result ((told : Bool) (c : Contents) (h : ℕ) → IsOpen (D.disk disk.old) told c h self.old → IsOpen (D.disk disk.new) told c (length c.sequence) self.new) }
-        ensures length { IfOk result (λ n. n ≡ count_of self.old) }
-        ensures entries { self.new.entries ≡ self.old.entries }
-        ensures instance { self.new.instance ≡ self.old.instance }
-        ensures all { OnOk result (self.new.hardened ≡ count_of self.new) }
-        ensures stamp { self.new.stamp ≡ self.old.stamp }
-        ensures reign { HasReign self.old → HasReign self.new }
-        ensures any_moment { (c : Contents) (h : ℕ) → IsOpen (D.disk disk.old) true c h self.old → AtEachMoment (D.disk disk.old) (D.disk disk.new) (λ f. (o : Contents) × IsFrontOf c.sequence h c o × IsSite f o) }
-        // and what lies behind it are the parts of the next entries that some regions have
-        ensures left { (c : Contents) (h : ℕ) → IsOpen (D.disk disk.old) true c h self.old → AtEachMoment (D.disk disk.old) (D.disk disk.new) (λ f. (o : Standing) × IsFrontLeft c.sequence h c o × IsSiteWith f o) }
-        ensures stands { (c : Contents) (h : ℕ) → IsOpen (D.disk disk.old) true c h self.old → IfSome (D.disk disk.new).content (λ f. (o : Contents) × IsFrontOf c.sequence h c o × IsSite f o) }
-        ensures still_told { IsSome (D.disk disk.old).content → IsSome (D.disk disk.new).content }
-        ensures simulated { (D.disk disk.new).simulated ≡ (D.disk disk.old).simulated }
-        ensures faults { MayFail (D.disk disk.old).faults (D.disk disk.new).faults (λ fault. IsErrOf result (SiteError.Failed fault)) }
-        ensures failed { OnErr result ((fault : ℕ) × IsErrOf result (SiteError.Failed fault)) }
-        ensures no_memory { IsErrOf result SiteError.NoMemory → ⊥ }
-    {
-        match self.journals.harden(disk) {
-            Ok(()) => {
-                self.hardened = self.entries.len();
-                Ok(self.hardened)
-            }
             Err(_) => Err(SiteError::Failed {
                 fault: disk.faults(),
             }),

@@ -7,7 +7,7 @@ ghost use Rattle.entry_index.specs.Parts as places;
 ghost use Rattle.region_store.specs.Joined.{joined, AreChanged};
 ghost use Rattle.site_store.specs.Committing.{IsSameMemory, IsSameSite, AddsPlaces, next_place};
 
-use crate::site::OpenSite;
+use crate::memory::Memory;
 use entry_index::{NOWHERE, PartPlace};
 use gvn_key::NoMemory;
 use gvn_model::Transaction;
@@ -43,7 +43,7 @@ fn next_places(journals: &RegionJournals, parts: &PartRecords) -> [PartPlace; MO
     row
 }
 
-impl OpenSite {
+impl Memory {
     /// Adds the places where the parts of an entry will stand, and makes its updates. Without memory nothing has changed but what room
     /// there is.
     pub(crate) fn remember(&mut self, t: &Transaction, parts: &PartRecords) -> Result<(), NoMemory>

@@ -11,7 +11,7 @@ ghost use Rattle.site_store.specs.Needing.{NoneNeeds};
 ghost use Rattle.site_store.specs.Site.{IsReady, IsOpen, IsSettled, HasReign};
 
 use crate::error::SiteError;
-use crate::site::OpenSite;
+use crate::memory::Memory;
 use region_epochs::{EpochError, take_epoch};
 use repl_disk::Disk;
 use std::alloc::Global;
@@ -30,7 +30,7 @@ pub(crate) fn answered(taken: Result<(), EpochError>, fault: u64) -> Result<(), 
     }
 }
 
-impl OpenSite {
+impl Memory {
     /// Puts what waits in the journals on the disk for good, where all entries are hardened: images of a commit that didn't come.
     /// Mostly nothing waits, and then it makes no call of the disk.
     fn settle<D: Disk>(&mut self, disk: &mut D) -> Result<(), SiteError>

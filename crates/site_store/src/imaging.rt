@@ -7,13 +7,13 @@ ghost use Rattle.site_store.specs.Site.{IsReady};
 
 use crate::epochs::answered;
 use crate::error::SiteError;
-use crate::site::OpenSite;
+use crate::memory::Memory;
 use gvn_key::terms::Update;
 use region_epochs::log_first_image;
 use repl_disk::Disk;
 use std::alloc::Global;
 
-impl OpenSite {
+impl Memory {
     /// Appends the image of a block to its region's journal where the block needs one before it's written. Without memory nothing more
     /// waits.
     fn log_first_image<D: Disk>(

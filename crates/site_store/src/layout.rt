@@ -10,7 +10,8 @@ ghost use Rattle.site_store.specs.Opening.{region_value};
 use crate::error::SiteError;
 use global_dir::Directory;
 use gvn_key::{Bytes, NoMemory};
-use instance_file::{InstanceLog, InstanceRecord};
+use gvn_model::NamedModes;
+use instance_file::InstanceRecord;
 use site_files::{created_name, directory_of, generation_in};
 use std::alloc::Global;
 
@@ -34,15 +35,6 @@ pub struct Layout {
     pub generation: u32,
 }
 
-/// A site that was found on a disk, with the records that told of it.
-#[derive(Drop)]
-pub struct FoundSite {
-    /// What the records say of the site.
-    pub layout: Layout,
-    /// The records.
-    pub log: InstanceLog,
-}
-
 /// Regions as a layout has them.
 fn specs_of(alloc: Global, regions: &[(Bytes, bool)]) -> Result<Vec<RegionSpec>, NoMemory>
     ensures { IfOk result (λ made. map region_value made.items ≡ map named_mode regions.now) }
@@ -53,6 +45,17 @@ fn specs_of(alloc: Global, regions: &[(Bytes, bool)]) -> Result<Vec<RegionSpec>,
             name: name.copy()?,
             before: *before,
         })?;
+    }
+    Ok(made)
+}
+
+/// Regions as the instance file takes them.
+pub(crate) fn named_modes(alloc: Global, regions: &[RegionSpec]) -> Result<NamedModes, NoMemory>
+    ensures { IfOk result (λ made. map named_mode made ≡ map region_value regions.now) }
+{
+    let mut made = NamedModes::new(alloc);
+    for region in regions {
+        made.push((region.name.copy()?, region.before))?;
     }
     Ok(made)
 }
@@ -72,10 +75,7 @@ pub(crate) fn region_specs(
 
 /// The layout that these records give, if there is one. Where they have no region, more than eight, or a MAP of another one they are
 /// no site's.
-pub(crate) fn layout_of(
-    alloc: Global,
-    records: &[InstanceRecord],
-) -> Result<Option<Layout>, SiteError>
+pub fn layout_of(alloc: Global, records: &[InstanceRecord]) -> Result<Option<Layout>, SiteError>
     ensures layout { IfOk result (λ found. IsLaidOut (map record_value records.now) found) }
     ensures outside { (file offset : ℕ) → IsErrOf result (SiteError.NotAFile file offset) → (0 < length records.now) × IsDirectory (map record_value records.now) None }
     ensures place { (file offset : ℕ) → IsErrOf result (SiteError.NotAFile file offset) → (file ≡ INSTANCE) × (offset ≡ 0) }

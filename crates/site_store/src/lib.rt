@@ -10,20 +10,17 @@
 #![tactic(auto)]
 
 mod committing;
-mod creating;
 mod entering;
 mod epochs;
 mod error;
 mod finding;
 mod fitting;
-mod history;
 mod imaging;
 mod laws;
 mod layout;
-mod mapping;
+mod memory;
 mod needing;
 mod opening;
-mod owning;
 mod preparing;
 mod reading;
 mod reigning;
@@ -31,17 +28,15 @@ mod showing;
 mod site;
 mod syncing;
 
-pub use creating::{create, find, inspect};
 pub use error::SiteError;
-pub use history::history_of;
+pub use finding::in_instance;
 pub use laws::nothing_is_left;
-pub use layout::{FoundSite, Layout, RegionSpec};
-pub use mapping::{map, map_logged};
+pub use layout::{Layout, RegionSpec, layout_of};
+pub use memory::Memory;
 pub use needing::first_needing;
-pub use opening::{load, load_anew};
-pub use owning::Site;
+pub use opening::open_as;
 pub use preparing::{FoundFiles, StandingSite, find_files, stand};
 pub use reading::read_file;
 pub use showing::write_entry;
-pub use site::OpenSite;
+pub use site::Site;
 pub use site_files::created_name;

@@ -8,7 +8,6 @@ ghost use Rattle.global_defs.specs.Entry.{Sequence};
 ghost use Rattle.journal_defs.specs.Sequence.{Records, IsSequence};
 ghost use Rattle.journal_defs.specs.Stands.{IsInstance, AreRecords};
 ghost use Rattle.site_defs.specs.Contents.{Contents, Leftover};
-ghost use Rattle.site_defs.specs.Opening.{opened, MayOpen};
 ghost use Rattle.site_defs.specs.Forward.{opened_as, MayOpenAs};
 ghost use Rattle.site_defs.specs.Outside.{IsOutsideSite};
 ghost use Rattle.site_defs.specs.Stands.{IsSite, HasLeft};
@@ -16,11 +15,11 @@ ghost use Rattle.site_defs.specs.OutsideBlocks.{IsOutsideOpening};
 ghost use Rattle.site_store.specs.Needing.{NoneIsWithout, HaveFirstWithout};
 ghost use Rattle.site_store.specs.Refusing.{IsUnwritten};
 ghost use Rattle.site_store.specs.Site.{Remembers, IsReady, IsOpen, WasOpened, WasOpenedFrom};
-ghost use Rattle.site_store.specs.Opening.{MayBeOpen, MayBeOpenAs, MayBeOpenWith, MayBeOpenWithAs, EachStands};
+ghost use Rattle.site_store.specs.Opening.{MayBeOpenAs, MayBeOpenWithAs, EachStands};
 
 use crate::error::SiteError;
+use crate::memory::Memory;
 use crate::preparing::{StandingSite, read_standing};
-use crate::site::OpenSite;
 use gvn_key::NoMemory;
 use jnl_file::Journal;
 use region_journals::{RegionJournal, RegionJournals};
@@ -42,11 +41,17 @@ fn newest_journals(alloc: Global, begun: Vec<Journal>) -> Result<RegionJournals,
     Ok(RegionJournals { journals })
 }
 
-/// Opens the site that stands on a disk, on the blocks of its regions or with these made anew.
+/// Opens the site that stands on a disk: syncs and reads its files, writes down what is broken behind its sequence, cuts at the
+/// length of that, and begins the next generation in each region. It opens it on the blocks of its regions; or anew, from its journals
+/// alone: then it doesn't read the blocks, makes the updates of all entries again, in memory, and begins the generation without images in
+/// each region, which needs forward recovery until the next epoch.
 ///
 /// # Errors
-/// As [`load`]'s, or where the regions are made anew as [`load_anew`]'s.
-fn open_as<D: Disk>(alloc: Global, disk: &mut D, anew: bool) -> Result<OpenSite, SiteError>
+/// `GenLimit` exactly where 65,534 generations were drawn; `NeedForward` exactly where a region needs forward recovery for all entries and
+/// the regions aren't made anew, with the first such region. `NotAFile` with the first file that is outside the formats, of which the
+/// blocks are no part where they are made anew, and the place of what can't stand there, or with file 0 and offset 0 where no site stands
+/// there. Nothing was written then. `Failed` only where the disk's count rose. `NoMemory`.
+pub fn open_as<D: Disk>(alloc: Global, disk: &mut D, anew: bool) -> Result<Memory, SiteError>
     ensures ready { IfOk result (λ s. IsReady (D.disk disk.new) s) }
     ensures read { IfOk result (λ s. (c : Contents) × (broken : List ℕ) × Remembers (opened_as anew broken c) (length c.sequence) s) }
     ensures told { IfOk result (λ s. IfSome (D.disk disk.old).content (λ files. (c : Contents) (left : Leftover) → IsSite files c → HasLeft files c left → EachStands (D.disk disk.old) → IsOpen (D.disk disk.new) true (opened_as anew left.broken c) (length c.sequence) s)) }
@@ -90,7 +95,7 @@ fn open_as<D: Disk>(alloc: Global, disk: &mut D, anew: bool) -> Result<OpenSite,
     let length = entries.len();
     let text = broken.as_slice();
     let drawn = draw(alloc, disk, log, length, text, &last_began, anew)?;
-    Ok(OpenSite {
+    Ok(Memory {
         instance: drawn.instance,
         layout,
         journals: newest_journals(alloc, drawn.journals)?,
@@ -99,85 +104,4 @@ fn open_as<D: Disk>(alloc: Global, disk: &mut D, anew: bool) -> Result<OpenSite,
         hardened: length,
         stamp: None,
     })
-}
-
-/// Opens the site that stands on a disk: syncs and reads its files, writes down what is broken behind its sequence, cuts at the
-/// length of that, and begins the next generation in each region.
-///
-/// # Errors
-/// `GenLimit` exactly where 65,534 generations were drawn; `NeedForward` exactly where a region needs forward recovery for all entries,
-/// with the first such region, and `load_anew` opens such a site. `NotAFile` with the first file that is outside the formats and the
-/// place of what can't stand there, or with file 0 and offset 0 where no site stands there. Nothing was written then. `Failed` only
-/// where the disk's count rose. `NoMemory`.
-pub fn load<D: Disk>(alloc: Global, disk: &mut D) -> Result<OpenSite, SiteError>
-    ensures ready { IfOk result (λ s. IsReady (D.disk disk.new) s) }
-    ensures read { IfOk result (λ s. (c : Contents) × (broken : List ℕ) × Remembers (opened broken c) (length c.sequence) s) }
-    ensures told { IfOk result (λ s. IfSome (D.disk disk.old).content (λ files. (c : Contents) (left : Leftover) → IsSite files c → HasLeft files c left → EachStands (D.disk disk.old) → IsOpen (D.disk disk.new) true (opened left.broken c) (length c.sequence) s)) }
-    // whether the files are a fit site's or not
-    ensures found { IfOk result (λ s. IfSome (D.disk disk.old).content (λ files. (u : Records) (seq : Sequence) → AreRecords files u → IsSequence u seq → WasOpenedFrom u seq s)) }
-    ensures held { IfOk result (λ s. IfSome (D.disk disk.old).content (λ files. (u : Records) × (seq : Sequence) × AreRecords files u × IsSequence u seq × WasOpenedFrom u seq s × NoneIsWithout u (length seq))) }
-    ensures opened { IfOk result WasOpened }
-    ensures drawn { OnOk result (IfSome (D.disk disk.old).content (λ files. (rs : List defs.InstanceRecord) → IsInstance (files INSTANCE) rs → generation rs < 65534)) }
-    ensures limit { IsErrOf result SiteError.GenLimit → IfSome (D.disk disk.old).content (λ files. (rs : List defs.InstanceRecord) → IsInstance (files INSTANCE) rs → 65534 ≤ generation rs) }
-    ensures limit_told { IsErrOf result SiteError.GenLimit → IfSome (D.disk disk.old).content (λ files. (rs : List defs.InstanceRecord) × IsInstance (files INSTANCE) rs × (65534 ≤ generation rs)) }
-    ensures needs { (region : ℕ) → IsErrOf result (SiteError.NeedForward region) → IfSome (D.disk disk.old).content (λ files. HaveFirstWithout files region) }
-    ensures needs_unwritten { (region : ℕ) → IsErrOf result (SiteError.NeedForward region) → IsUnwritten (D.disk disk.old) (D.disk disk.new) }
-    ensures unwritten { IsErrOf result SiteError.GenLimit → (D.disk disk.new).content ≡ (D.disk disk.old).content }
-    ensures untouched { IsErrOf result SiteError.GenLimit → AtEachMoment (D.disk disk.old) (D.disk disk.new) (Image (D.disk disk.old)) }
-    ensures place { (file offset : ℕ) → IsErrOf result (SiteError.NotAFile file offset) → IfSome (D.disk disk.old).content (λ files. IsOutsideOpening files file offset) }
-    ensures refused { (file offset : ℕ) → IsErrOf result (SiteError.NotAFile file offset) → IfSome (D.disk disk.old).content (λ _. IsUnwritten (D.disk disk.old) (D.disk disk.new)) }
-    ensures outside { (file offset : ℕ) → IsErrOf result (SiteError.NotAFile file offset) → IfSome (D.disk disk.old).content (λ files. (c : Contents) → IsSite files c → ⊥) }
-    ensures any_moment { IfSome (D.disk disk.old).content (λ files. (c : Contents) (left : Leftover) → IsSite files c → HasLeft files c left → AtEachMoment (D.disk disk.old) (D.disk disk.new) (MayBeOpen (D.disk disk.old) left.broken)) }
-    // each with what was broken in its own image
-    ensures left { IfSome (D.disk disk.old).content (λ files. (c : Contents) → IsSite files c → AtEachMoment (D.disk disk.old) (D.disk disk.new) (MayBeOpenWith (D.disk disk.old))) }
-    ensures still_told { IsSome (D.disk disk.old).content → IsSome (D.disk disk.new).content }
-    ensures stands { IfSome (D.disk disk.old).content (λ files. (c : Contents) (left : Leftover) → IsSite files c → HasLeft files c left → IfSome (D.disk disk.new).content (λ now. (o : Contents) × MayOpen left.broken c o × IsSite now o)) }
-    ensures simulated { (D.disk disk.new).simulated ≡ (D.disk disk.old).simulated }
-    ensures faults { MayFail (D.disk disk.old).faults (D.disk disk.new).faults (λ fault. IsErrOf result (SiteError.Failed fault)) }
-    ensures other_errors { IsErrOf result SiteError.SeqLimit → ⊥ }
-    ensures no_full { (nodes : ℕ) → IsErrOf result (SiteError.Full nodes) → ⊥ }
-    ensures no_reign_limit { IsErrOf result SiteError.ReignLimit → ⊥ }
-    ensures no_stop { (fault : ℕ) → IsErrOf result (SiteError.Stopped fault) → ⊥ }
-{
-    open_as(alloc, disk, false)
-}
-
-/// Opens the site that stands on a disk from its journals alone: syncs and reads its files but for the blocks of its regions, writes
-/// down what is broken behind its sequence, cuts at the length of that, and begins the next generation, without images in each region.
-/// The regions are made anew with the updates of all entries, in memory, and each needs forward recovery until the next epoch.
-///
-/// # Errors
-/// `GenLimit` exactly where 65,534 generations were drawn. `NotAFile` with the first file that is outside the formats, of which the
-/// blocks of the regions are no part, and the place of what can't stand there, or with file 0 and offset 0 where no site stands there.
-/// Nothing was written then. `Failed` only where the disk's count rose. `NoMemory`.
-pub fn load_anew<D: Disk>(alloc: Global, disk: &mut D) -> Result<OpenSite, SiteError>
-    ensures ready { IfOk result (λ s. IsReady (D.disk disk.new) s) }
-    ensures read { IfOk result (λ s. (c : Contents) × (broken : List ℕ) × Remembers (opened_as true broken c) (length c.sequence) s) }
-    ensures told { IfOk result (λ s. IfSome (D.disk disk.old).content (λ files. (c : Contents) (left : Leftover) → IsSite files c → HasLeft files c left → EachStands (D.disk disk.old) → IsOpen (D.disk disk.new) true (opened_as true left.broken c) (length c.sequence) s)) }
-    // whether the files are a fit site's or not
-    ensures found { IfOk result (λ s. IfSome (D.disk disk.old).content (λ files. (u : Records) (seq : Sequence) → AreRecords files u → IsSequence u seq → WasOpenedFrom u seq s)) }
-    ensures held { IfOk result (λ s. IfSome (D.disk disk.old).content (λ files. (u : Records) × (seq : Sequence) × AreRecords files u × IsSequence u seq × WasOpenedFrom u seq s)) }
-    ensures opened { IfOk result WasOpened }
-    ensures drawn { OnOk result (IfSome (D.disk disk.old).content (λ files. (rs : List defs.InstanceRecord) → IsInstance (files INSTANCE) rs → generation rs < 65534)) }
-    ensures limit { IsErrOf result SiteError.GenLimit → IfSome (D.disk disk.old).content (λ files. (rs : List defs.InstanceRecord) → IsInstance (files INSTANCE) rs → 65534 ≤ generation rs) }
-    ensures limit_told { IsErrOf result SiteError.GenLimit → IfSome (D.disk disk.old).content (λ files. (rs : List defs.InstanceRecord) × IsInstance (files INSTANCE) rs × (65534 ≤ generation rs)) }
-    ensures unwritten { IsErrOf result SiteError.GenLimit → (D.disk disk.new).content ≡ (D.disk disk.old).content }
-    ensures untouched { IsErrOf result SiteError.GenLimit → AtEachMoment (D.disk disk.old) (D.disk disk.new) (Image (D.disk disk.old)) }
-    ensures place { (file offset : ℕ) → IsErrOf result (SiteError.NotAFile file offset) → IfSome (D.disk disk.old).content (λ files. IsOutsideSite files file offset) }
-    ensures refused { (file offset : ℕ) → IsErrOf result (SiteError.NotAFile file offset) → IfSome (D.disk disk.old).content (λ _. IsUnwritten (D.disk disk.old) (D.disk disk.new)) }
-    ensures outside { (file offset : ℕ) → IsErrOf result (SiteError.NotAFile file offset) → IfSome (D.disk disk.old).content (λ files. (c : Contents) → IsSite files c → ⊥) }
-    ensures any_moment { IfSome (D.disk disk.old).content (λ files. (c : Contents) (left : Leftover) → IsSite files c → HasLeft files c left → AtEachMoment (D.disk disk.old) (D.disk disk.new) (MayBeOpenAs true (D.disk disk.old) left.broken)) }
-    // each with what was broken in its own image
-    ensures left { IfSome (D.disk disk.old).content (λ files. (c : Contents) → IsSite files c → AtEachMoment (D.disk disk.old) (D.disk disk.new) (MayBeOpenWithAs true (D.disk disk.old))) }
-    ensures still_told { IsSome (D.disk disk.old).content → IsSome (D.disk disk.new).content }
-    ensures stands { IfSome (D.disk disk.old).content (λ files. (c : Contents) (left : Leftover) → IsSite files c → HasLeft files c left → IfSome (D.disk disk.new).content (λ now. (o : Contents) × MayOpenAs true left.broken c o × IsSite now o)) }
-    ensures simulated { (D.disk disk.new).simulated ≡ (D.disk disk.old).simulated }
-    ensures faults { MayFail (D.disk disk.old).faults (D.disk disk.new).faults (λ fault. IsErrOf result (SiteError.Failed fault)) }
-    ensures other_errors { IsErrOf result SiteError.SeqLimit → ⊥ }
-    ensures no_full { (nodes : ℕ) → IsErrOf result (SiteError.Full nodes) → ⊥ }
-    ensures no_reign_limit { IsErrOf result SiteError.ReignLimit → ⊥ }
-    ensures no_forward { (region : ℕ) → IsErrOf result (SiteError.NeedForward region) → ⊥ }
-    ensures no_stop { (fault : ℕ) → IsErrOf result (SiteError.Stopped fault) → ⊥ }
-{
-    open_as(alloc, disk, true)
 }

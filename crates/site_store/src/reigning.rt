@@ -1,18 +1,17 @@
 //! Beginning a reign.
-ghost use Rattle.std.specs.Prelude.{◌≡◌, ◌⊎◌, ◌<◌, ◌^◌, ◌++◌, ◌∷◌, [], ℕ, Bool, true, false, length, Some, IfOk, IfSome, OnOk, OnErr, IsErrOf, IsSome};
+ghost use Rattle.std.specs.Prelude.{◌≡◌, ◌⊎◌, ◌<◌, ◌^◌, ◌++◌, ◌∷◌, [], ℕ, Bool, true, length, Some, IfOk, IfSome, OnOk, OnErr, IsErrOf, IsSome};
 ghost use Rattle.disk_defs.specs.Disk.{Image, AtEachMoment, MayFail};
 ghost use Rattle.gvn_model.specs.Reigns.{stamp_value, reign_value};
 ghost use Rattle.journal_defs.specs.Instance.{Reigned, site_name};
 ghost use Rattle.site_defs.specs.Contents.{Contents, bare};
-ghost use Rattle.site_defs.specs.Limits.{no_reign_left};
-ghost use Rattle.site_defs.specs.Opening.{with_reign, next_stamp};
+ghost use Rattle.site_defs.specs.Opening.{with_reign};
 ghost use Rattle.site_defs.specs.Stands.{IsSite};
 ghost use Rattle.site_defs.specs.Behind.{IsSiteWith};
-ghost use Rattle.site_store.specs.Site.{Remembers, IsReady, IsOpen, WasOpened, HasReign, count_of};
+ghost use Rattle.site_store.specs.Site.{IsReady, IsOpen, WasOpened, HasReign, count_of};
 ghost use Rattle.site_store.specs.Reigning.{IsNextReign, HasReignLeft, HasNoReignLeft};
 
 use crate::error::SiteError;
-use crate::site::OpenSite;
+use crate::memory::Memory;
 use gvn_key::Bytes;
 use gvn_model::{Reign, Stamp};
 use instance_file::InstanceError;
@@ -23,7 +22,7 @@ use std::alloc::Global;
 /// How many reigns may begin by the length.
 const MOST_REIGNS: usize = 32_768;
 
-impl OpenSite {
+impl Memory {
     /// The reign that begins behind the last entry, under the site's own name and the next cycle.
     pub(crate) fn next_reign(&self, alloc: Global) -> Result<Reign, SiteError>
         requires { count_of self.now < 2 ^ 40 }
@@ -32,7 +31,7 @@ impl OpenSite {
         ensures limit { IsErrOf result SiteError.ReignLimit → HasNoReignLeft self.now }
         ensures causes { OnErr result (IsErrOf result SiteError.ReignLimit ⊎ IsErrOf result SiteError.NoMemory) }
     {
-        if MOST_REIGNS <= self.history().len() {
+        if MOST_REIGNS <= self.instance.history().len() {
             return Err(SiteError::ReignLimit);
         }
         let Some(cycle) = self.instance.draw_cycle() else {
@@ -95,45 +94,5 @@ impl OpenSite {
             Err(InstanceError::NoMemory) => Err(SiteError::NoMemory),
             Err(InstanceError::NotARecord { .. }) => unreachable!(),
         }
-    }
-
-    /// Begins a reign under the site's own name and the next cycle, and answers its stamp. All entries have to be hardened, and
-    /// no reign may have begun past them.
-    ///
-    /// # Errors
-    /// `ReignLimit` exactly where 32,768 reigns have begun by the length, or a reign has the last cycle, also one that a CUT
-    /// dropped; nothing has changed then. `Failed` only where the disk's count rose; a crash may then find the reign all the same.
-    /// `NoMemory`: nothing was written then, and the site goes on, though it may have more room than it had.
-    pub fn start_reign<D: Disk>(&mut self, alloc: Global, disk: &mut D) -> Result<Stamp, SiteError>
-        requires ready { IsReady (D.disk disk.old) self.old }
-        requires opened { WasOpened self.old }
-        ensures ready { OnOk result (IsReady (D.disk disk.new) self.new) }
-        ensures begun { OnOk result ((told : Bool) (c : Contents) → IsOpen (D.disk disk.old) told c (length c.sequence) self.old → IsOpen (D.disk disk.new) told (with_reign (site_name c.instance) c) (length c.sequence) self.new) }
-        ensures stamp { IfOk result (λ stamp. (c : Contents) → c.instance ≡ self.old.instance.records → stamp_value stamp ≡ next_stamp (site_name c.instance) c) }
-        ensures remembered { IfOk result (λ stamp. self.new.stamp ≡ Some stamp) }
-        ensures reign { OnOk result (HasReign self.new) }
-        ensures entries { self.new.entries ≡ self.old.entries }
-        ensures hardened { self.new.hardened ≡ self.old.hardened }
-        ensures room { OnOk result ((c : Contents) (h : ℕ) → Remembers c h self.old → no_reign_left c ≡ false) }
-        ensures limit { IsErrOf result SiteError.ReignLimit → (c : Contents) (h : ℕ) → Remembers c h self.old → no_reign_left c ≡ true }
-        ensures kept { IsErrOf result SiteError.ReignLimit → (disk.new ≡ disk.old) × (self.new ≡ self.old) }
-        // all memory is taken before anything is written
-        ensures unwritten { IsErrOf result SiteError.NoMemory → AtEachMoment (D.disk disk.old) (D.disk disk.new) (Image (D.disk disk.old)) }
-        ensures again { IsErrOf result SiteError.NoMemory → WasOpened self.new }
-        ensures goes_on { IsErrOf result SiteError.NoMemory → IsReady (D.disk disk.new) self.new }
-        ensures stays_open { IsErrOf result SiteError.NoMemory → (told : Bool) (c : Contents) (h : ℕ) → IsOpen (D.disk disk.old) told c h self.old → IsOpen (D.disk disk.new) told c h self.new }
-        ensures any_moment { (c : Contents) → IsOpen (D.disk disk.old) true c (length c.sequence) self.old → AtEachMoment (D.disk disk.old) (D.disk disk.new) (λ f. IsSite f c ⊎ IsSite f (with_reign (site_name c.instance) c)) }
-        ensures left { (c : Contents) → IsOpen (D.disk disk.old) true c (length c.sequence) self.old → AtEachMoment (D.disk disk.old) (D.disk disk.new) (λ f. IsSiteWith f (bare c) ⊎ IsSiteWith f (bare (with_reign (site_name c.instance) c))) }
-        ensures stands { (c : Contents) → IsOpen (D.disk disk.old) true c (length c.sequence) self.old → IfSome (D.disk disk.new).content (λ f. IsSite f c ⊎ IsSite f (with_reign (site_name c.instance) c)) }
-        ensures still_told { IsSome (D.disk disk.old).content → IsSome (D.disk disk.new).content }
-        ensures simulated { (D.disk disk.new).simulated ≡ (D.disk disk.old).simulated }
-        ensures faults { MayFail (D.disk disk.old).faults (D.disk disk.new).faults (λ fault. IsErrOf result (SiteError.Failed fault)) }
-        ensures causes { OnErr result (IsErrOf result SiteError.ReignLimit ⊎ ((fault : ℕ) × IsErrOf result (SiteError.Failed fault)) ⊎ IsErrOf result SiteError.NoMemory) }
-    {
-        let reign = self.next_reign(alloc)?;
-        let kept = reign.stamp.copy()?;
-        let told = reign.stamp.copy()?;
-        self.begin_reign(disk, &reign, kept)?;
-        Ok(told)
     }
 }

@@ -1,33 +1,25 @@
 //! What an open site shows: its entries and its nodes, as text.
-ghost use Rattle.std.specs.Prelude.{◌≡◌, ◌⊎◌, ◌≤◌, ◌<◌, ◌-◌, ◌++◌, ℕ, true, map, slice_get, IfOk, IfSome, OnOk, OnErr, IsErrOf};
-ghost use Rattle.std.specs.Option.{option_copied};
+ghost use Rattle.std.specs.Prelude.{◌≡◌, ◌⊎◌, ◌≤◌, ◌<◌, ◌-◌, ◌++◌, ℕ, map, slice_get, IfSome, OnOk, OnErr, IsErrOf};
 ghost use Rattle.std.specs.List.{flat_map};
 ghost use Rattle.disk_defs.specs.Disk.{Reads, MayFail};
 ghost use Rattle.global_defs.specs.Entry.{Entry, Sequence};
 ghost use Rattle.global_defs.specs.Extract.{entry_text};
 ghost use Rattle.global_defs.specs.Prefix.{IsPrefix};
 ghost use Rattle.gvt_leaf.specs.Listed.{node_value};
-ghost use Rattle.journal_defs.specs.Surviving.{reigns};
 ghost use Rattle.mupip_recover.specs.Stamps.{AreStarts};
 ghost use Rattle.entry_index.specs.Indexes.{Indexes};
 ghost use Rattle.entry_index.specs.Found.{entry_count};
-ghost use Rattle.site_defs.specs.Contents.{Contents};
-ghost use Rattle.site_defs.specs.Texts.{node_line, zwrite};
-ghost use Rattle.region_store.specs.Joined.{joined};
+ghost use Rattle.site_defs.specs.Texts.{node_line};
 ghost use Rattle.site_store.specs.Errors.{index_error};
-ghost use Rattle.site_store.specs.Site.{IsReady, IsOpen, count_of};
 ghost use Rattle.entry_index.specs.Parts.{InFiles};
 
 use crate::error::SiteError;
-use crate::site::OpenSite;
 use entry_index::{EntryIndex, IndexError};
-use gvn_key::{Bytes, Key, NoMemory};
+use gvn_key::{Bytes, NoMemory};
 use gvn_model::Reigns;
 use gvt_leaf::Node;
 use jnl_extract::{extract_entry, write_node};
-use mupip_recover::starts_of;
 use repl_disk::Disk;
-use std::alloc::Global;
 
 /// An error of the index, on a disk with this count of faults.
 fn in_index(error: IndexError, fault: u64) -> SiteError
@@ -78,7 +70,7 @@ pub fn write_entry<D: Disk>(
 }
 
 /// Adds a line for each of these nodes.
-fn write_nodes(nodes: &[Node], out: &mut Bytes) -> Result<(), NoMemory>
+pub(crate) fn write_nodes(nodes: &[Node], out: &mut Bytes) -> Result<(), NoMemory>
     ensures lines { OnOk result (out.new ≡ out.old ++ flat_map node_line (map node_value nodes.now)) }
     ensures front { OnErr result (IsPrefix out.old out.new) }
 {
@@ -86,55 +78,4 @@ fn write_nodes(nodes: &[Node], out: &mut Bytes) -> Result<(), NoMemory>
         write_node(&node.key, node.value, out)?;
     }
     Ok(())
-}
-
-impl OpenSite {
-    /// For each reign that no later CUT dropped the least start of that and the later ones, by which an entry's reign is found.
-    pub fn starts(&self, alloc: Global) -> Result<Vec<u64>, NoMemory>
-        ensures { IfOk result (λ made. AreStarts (reigns self.now.instance.records) made.items) }
-    {
-        starts_of(alloc, self.history().as_slice())
-    }
-
-    /// Adds the extract lines of the entry of that number, where there is one: one line for its update, or a line for each between
-    /// a TSTART and a TCOM line. It reads the entry's parts from the journals. `starts` are what [`starts`](OpenSite::starts) gives.
-    ///
-    /// # Errors
-    /// `NotAFile` with the file and the place of a part, only where a read gave other bytes there than stood there; `Failed` only where
-    /// the disk's count rose; `NoMemory`. Nothing is added then.
-    pub fn extract<D: Disk>(
-        &self,
-        disk: &mut D,
-        starts: &[u64],
-        number: u64,
-        out: &mut Bytes,
-    ) -> Result<(), SiteError>
-        requires ready { IsReady (D.disk disk.old) self.now }
-        requires starts { AreStarts (reigns self.now.instance.records) starts.now }
-        requires first { 1 ≤ number }
-        ensures entry { OnOk result ((c : Contents) (h : ℕ) → IsOpen (D.disk disk.old) true c h self.now → IfSome (slice_get c.sequence (number - 1)) (λ e. out.new ≡ out.old ++ entry_text number e)) }
-        // whatever the disk tells, there are lines of an entry
-        ensures some { OnOk result (number ≤ count_of self.now → (e : Entry) × (out.new ≡ out.old ++ entry_text number e)) }
-        ensures no_entry { count_of self.now < number → out.new ≡ out.old }
-        ensures without { OnErr result (out.new ≡ out.old) }
-        ensures outside { (file offset : ℕ) → IsErrOf result (SiteError.NotAFile file offset) → (c : Contents) (h : ℕ) → IsOpen (D.disk disk.old) true c h self.now → ⊥ }
-        ensures reads { Reads (D.disk disk.old) (D.disk disk.new) }
-        ensures faults { MayFail (D.disk disk.old).faults (D.disk disk.new).faults (λ fault. IsErrOf result (SiteError.Failed fault)) }
-        ensures causes { OnErr result (((fault : ℕ) × IsErrOf result (SiteError.Failed fault)) ⊎ ((file : ℕ) × (offset : ℕ) × IsErrOf result (SiteError.NotAFile file offset)) ⊎ IsErrOf result SiteError.NoMemory) }
-    {
-        write_entry(disk, &self.entries, self.history(), starts, number, out)
-    }
-
-    /// Adds a ZWRITE line for each node, or for the top one and those below it, in M collation. Without memory some lines may be
-    /// added, and what was there stays.
-    pub fn zwrite(&self, top: Option<&Key>, out: &mut Bytes) -> Result<(), NoMemory>
-        ensures lines { OnOk result (out.new ≡ out.old ++ zwrite (option_copied top.entry) (joined self.now.globals)) }
-        ensures front { OnErr result (IsPrefix out.old out.new) }
-    {
-        let alloc = out.allocator();
-        match top {
-            None => write_nodes(&self.globals.list(alloc)?, out),
-            Some(key) => write_nodes(&self.globals.list_under(alloc, key)?, out),
-        }
-    }
 }

@@ -3,10 +3,10 @@ ghost use Rattle.std.specs.Prelude.{◌≡◌, [], Some, IfSome};
 ghost use Rattle.disk_defs.specs.Gates.{records};
 ghost use Rattle.journal_defs.specs.Numbers.{INSTANCE};
 
-use crate::sites::{has, make, put_two};
+use crate::sites::{has, make, opened, put_two};
 use mupip_rollback::{RollError, recover_backward, recover_forward, set_mode};
 use repl_disk::{Disk, MemDisk};
-use site_store::{Site, SiteError, load};
+use site_store::{Site, SiteError};
 use std::alloc::Global;
 use std::process::Abort;
 
@@ -29,8 +29,7 @@ fn without_images<D: Disk>(rt: &impl Abort, alloc: Global, disk: D) -> D
     let (mut disk, closed) = site.close();
     closed.expect(rt, "it succeeds");
     set_first(alloc, &mut disk, false).expect(rt, "it succeeds");
-    let site = Site::load(alloc, disk).ok().expect(rt, "a site");
-    site.abandon()
+    opened(rt, alloc, disk)
 }
 
 /// Such a site is opened and recovered backward no more, and once it was recovered forward it is opened again.
@@ -38,13 +37,13 @@ fn without_images<D: Disk>(rt: &impl Abort, alloc: Global, disk: D) -> D
 fn recovered_forward(rt: HostRuntime) {
     let alloc = rt.alloc();
     let made = MemDisk::new(alloc).expect(&rt, "it succeeds");
-    let mut disk = without_images(&rt, alloc, made);
-    let opened = load(alloc, &mut disk).err();
-    assert_eq!(rt; opened, Some(SiteError::NeedForward { region: 0 }));
+    let disk = without_images(&rt, alloc, made);
+    let (mut disk, error) = Site::load(alloc, disk).err().expect(&rt, "no site");
+    assert_eq!(rt; error, SiteError::NeedForward { region: 0 });
     let recovered = recover_backward(alloc, &mut disk);
     assert_eq!(rt; recovered, Err(RollError::NeedForward { region: 0 }));
     assert_eq!(rt; recover_forward(alloc, &mut disk), Ok(2));
-    let site = load(alloc, &mut disk).expect(&rt, "a site");
+    let site = Site::load(alloc, disk).ok().expect(&rt, "a site");
     assert_eq!(rt; site.sequence_length(), 2);
 }
 
@@ -62,11 +61,11 @@ fn no_mode_on_a_new_disk(rt: HostRuntime) {
 fn sets_after(rt: &impl Abort, alloc: Global, calls: u64, pick: u64) -> bool {
     let mut disk = MemDisk::new(alloc).expect(rt, "it succeeds");
     make(alloc, &mut disk).expect(rt, "it succeeds");
-    load(alloc, &mut disk).expect(rt, "it succeeds");
+    let mut disk = opened(rt, alloc, disk);
     disk.fuse(calls);
     let done = set_first(alloc, &mut disk, false).is_ok();
     disk.crash(pick);
-    load(alloc, &mut disk).expect(rt, "a site");
+    let mut disk = opened(rt, alloc, disk);
     assert!(rt;
         !done || has(rt, &mut disk, 32, WITHOUT),
         "pick {pick}, calls {calls}"
@@ -82,10 +81,7 @@ fn recovers_after(rt: &impl Abort, alloc: Global, calls: u64, pick: u64) -> bool
     disk.fuse(calls);
     let done = recover_forward(alloc, &mut disk).is_ok();
     disk.crash(pick);
-    assert!(rt;
-        !done || load(alloc, &mut disk).is_ok(),
-        "pick {pick}, calls {calls}"
-    );
+    let mut disk = if done { opened(rt, alloc, disk) } else { disk };
     assert_eq!(rt; recover_forward(alloc, &mut disk), Ok(2));
     done
 }

@@ -5,16 +5,15 @@ ghost use Rattle.global_defs.specs.Fields.{IsTransaction};
 ghost use Rattle.gvn_model.specs.Entries.{transaction_value};
 ghost use Rattle.journal_defs.specs.Numbers.{INSTANCE};
 ghost use Rattle.site_store.specs.Site.{HasReign};
-ghost use Rattle.site_store.specs.Owning.{IsGoing};
+ghost use Rattle.site_store.specs.Owning.{IsGoing, disk_of, memory_of};
 
 use gvn_key::terms::Update;
 use gvn_key::{Bytes, Key};
 use gvn_model::{Origin, Transaction, Updates};
 use mupip_rollback::rollback;
 use repl_disk::{Disk, MemDisk};
-use site_store::{
-    RegionSpec, Site, SiteError, create, find_files, history_of, inspect, load, read_file, stand,
-};
+use site_making::{history_of, inspect};
+use site_store::{RegionSpec, Site, SiteError, find_files, read_file, stand};
 use std::alloc::Global;
 use std::process::Abort;
 
@@ -33,7 +32,7 @@ pub(crate) fn make<D: Disk>(alloc: Global, disk: &mut D) -> Result<(), SiteError
         name: Bytes::of(alloc, b"R")?,
         before: true,
     }];
-    create(alloc, disk, &name, &regions)
+    Site::create(alloc, disk, &name, &regions)
 }
 
 /// PINI of region 1, NOBEFORE, as the first record of generation 1 and its closed gate.
@@ -54,7 +53,7 @@ fn make_two<D: Disk>(alloc: Global, disk: &mut D) -> Result<(), SiteError>
             before: false,
         },
     ];
-    create(alloc, disk, &name, &regions)
+    Site::create(alloc, disk, &name, &regions)
 }
 
 /// Whether a file has these bytes.
@@ -65,6 +64,11 @@ pub(crate) fn has<D: Disk>(rt: &impl Abort, disk: &mut D, file: u32, bytes: &[u8
     let mut read = [0; 18];
     disk.read_at(file, 0, &mut read).expect(rt, "it succeeds");
     &read == bytes
+}
+
+/// The disk of a site that was opened on it, and given up.
+pub(crate) fn opened<D: Disk>(rt: &impl Abort, alloc: Global, disk: D) -> D {
+    Site::load(alloc, disk).ok().expect(rt, "a site").abandon()
 }
 
 /// Writes these bytes at the start of a file.
@@ -83,8 +87,8 @@ fn no_site_on_a_new_disk(rt: HostRuntime) {
             .expect(&rt, "it succeeds")
             .is_none()
     );
-    let opened = load(alloc, &mut disk).err();
-    assert_eq!(rt; opened, Some(SiteError::NotAFile { file: 0, offset: 0 }));
+    let (_, error) = Site::load(alloc, disk).err().expect(&rt, "no site");
+    assert_eq!(rt; error, SiteError::NotAFile { file: 0, offset: 0 });
 }
 
 #[test]
@@ -92,19 +96,13 @@ fn a_generation_for_each_opening(rt: HostRuntime) {
     let alloc = rt.alloc();
     let mut disk = MemDisk::new(alloc).expect(&rt, "it succeeds");
     make(alloc, &mut disk).expect(&rt, "it succeeds");
-    assert_eq!(rt;
-        load(alloc, &mut disk)
-            .expect(&rt, "it succeeds")
-            .sequence_length(),
-        0
-    );
+    let site = Site::load(alloc, disk).ok().expect(&rt, "a site");
+    assert_eq!(rt; site.sequence_length(), 0);
+    let mut disk = site.abandon();
     assert!(rt; has(&rt, &mut disk, 24, FIRST));
-    assert_eq!(rt;
-        load(alloc, &mut disk)
-            .expect(&rt, "it succeeds")
-            .hardened_length(),
-        0
-    );
+    let site = Site::load(alloc, disk).ok().expect(&rt, "a site");
+    assert_eq!(rt; site.hardened_length(), 0);
+    let mut disk = site.abandon();
     assert!(rt; has(&rt, &mut disk, 32, SECOND));
     let found = inspect(alloc, &mut disk)
         .expect(&rt, "it succeeds")
@@ -119,7 +117,7 @@ fn bytes_of_a_file(rt: HostRuntime) {
     let alloc = rt.alloc();
     let mut disk = MemDisk::new(alloc).expect(&rt, "it succeeds");
     make_two(alloc, &mut disk).expect(&rt, "it succeeds");
-    load(alloc, &mut disk).expect(&rt, "it succeeds");
+    let mut disk = opened(&rt, alloc, disk);
     let mut bytes = Bytes::new(alloc);
     read_file(&mut disk, 25, &mut bytes).expect(&rt, "it succeeds");
     assert_eq!(rt; bytes.as_slice(), FIRST_OF_SECOND.as_slice());
@@ -132,23 +130,21 @@ fn a_journal_outside_its_format(rt: HostRuntime) {
     let alloc = rt.alloc();
     let mut disk = MemDisk::new(alloc).expect(&rt, "it succeeds");
     make(alloc, &mut disk).expect(&rt, "it succeeds");
-    load(alloc, &mut disk).expect(&rt, "it succeeds");
+    let mut disk = opened(&rt, alloc, disk);
     write_bytes(&rt, &mut disk, 24, b"\x01\0\x0f\xff\xff");
-    let opened = load(alloc, &mut disk).err();
-    assert_eq!(rt;
-        opened,
-        Some(SiteError::NotAFile {
-            file: 24,
-            offset: 0
-        })
-    );
+    let (_, error) = Site::load(alloc, disk).err().expect(&rt, "no site");
+    let place = SiteError::NotAFile {
+        file: 24,
+        offset: 0,
+    };
+    assert_eq!(rt; error, place);
 }
 
 /// The site A on a disk without one, which it owns, with its first reign begun.
 fn begin<D: Disk>(alloc: Global, mut disk: D) -> Result<Site<D>, SiteError>
     requires { IfSome (D.disk disk).content (λ files. records (files INSTANCE) ≡ Some []) }
     ensures ready { IfOk result (IsGoing D.disk) }
-    ensures reign { IfOk result (λ s. HasReign s.inner) }
+    ensures reign { IfOk result (λ s. HasReign (memory_of s)) }
 {
     let name = Bytes::of(alloc, b"A")?;
     let regions = [RegionSpec {
@@ -185,9 +181,9 @@ fn set(rt: &impl Abort, alloc: Global) -> Transaction
 /// Gives a site that goes on its next entry.
 fn put<D: Disk>(rt: &impl Abort, alloc: Global, site: &mut Site<D>) -> u64
     requires ready { IsGoing D.disk site.old }
-    requires reign { HasReign site.old.inner }
+    requires reign { HasReign (memory_of site.old) }
     ensures ready { IsGoing D.disk site.new }
-    ensures reign { HasReign site.new.inner }
+    ensures reign { HasReign (memory_of site.new) }
 {
     let t = set(rt, alloc);
     site.commit(&t).expect(rt, "it succeeds")
@@ -286,7 +282,7 @@ fn history_on_a_disk(rt: HostRuntime) {
 /// Hardens where no call of the disk succeeds any more, and closes then.
 fn fail_and_close<D: Disk>(rt: &impl Abort, site: Site<D>) -> (D, u64, Option<SiteError>)
     requires ready { IsGoing D.disk site }
-    requires simulated { IsTrue (D.disk site.disk).simulated }
+    requires simulated { IsTrue (D.disk (disk_of site)).simulated }
 {
     let mut site = site;
     site.fuse(0);
@@ -327,7 +323,7 @@ fn a_disk_handed_back(rt: HostRuntime) {
 fn put_and_keep<D: Disk>(rt: &impl Abort, alloc: Global, disk: D) -> Site<D>
     requires { IfSome (D.disk disk).content (λ files. records (files INSTANCE) ≡ Some []) }
     ensures ready { IsGoing D.disk result }
-    ensures reign { HasReign result.inner }
+    ensures reign { HasReign (memory_of result) }
 {
     let mut site = begin(alloc, disk).expect(rt, "it succeeds");
     put(rt, alloc, &mut site);
@@ -363,9 +359,9 @@ fn an_image_ahead_of_the_first_change(rt: HostRuntime) {
 /// One entry more, with an epoch behind it.
 fn put_and_mark<D: Disk>(rt: &impl Abort, alloc: Global, site: &mut Site<D>)
     requires ready { IsGoing D.disk site.old }
-    requires reign { HasReign site.old.inner }
+    requires reign { HasReign (memory_of site.old) }
     ensures ready { IsGoing D.disk site.new }
-    ensures reign { HasReign site.new.inner }
+    ensures reign { HasReign (memory_of site.new) }
 {
     put(rt, alloc, site);
     site.epoch().expect(rt, "it succeeds");

@@ -1,4 +1,4 @@
-use Rattle.std.proofs.Common.{◌≡◌, ◌<◌, List, length, true, ◌∙◌}
+use Rattle.std.proofs.Common.{◌≡◌, ◌<◌, List, length, true, false, ◌∙◌}
 use Rattle.std.proofs.lemmas.Result.{IfOk-weaker}
 use Rattle.disk_defs.specs.Disk.{Files}
 use Rattle.disk_defs.proofs.Told.{both_weak}
@@ -9,23 +9,24 @@ use Rattle.journal_defs.specs.Sequence.{Records, IsSequence}
 use Rattle.journal_defs.specs.Stands.{IsInstance, AreRecords}
 use Rattle.site_defs.specs.Contents.{Contents}
 use Rattle.site_defs.specs.Epochs.{marked}
+use Rattle.site_store.specs.Needing.{NoneIsWithout}
 use Rattle.site_store.specs.Site.{IsOpen, WasOpenedFrom, count_of}
 use Rattle.mupip_rollback.specs.Rolling.{StandsFor}
 use Rattle.mupip_rollback.proofs.Recovered as recovered
 use Rattle.mupip_rollback.proofs.recovering.recover_forward.Goals as goal
 
 pub returns-in-Err-clause-any_moment : goal.returns-in-Err-clause-any_moment
-returns-in-Err-clause-any_moment g c = recovered.opening true (g.D.Disk.disk c.args.disk.now) (g.D.Disk.disk c.load_anew.new.disk) c.load_anew.ensures.any_moment
+returns-in-Err-clause-any_moment g c = recovered.opening true (g.D.Disk.disk c.args.disk.now) (g.D.Disk.disk c.open_as.new.disk) c.open_as.ensures.any_moment
 
 pub returns-in-Err-clause-left : goal.returns-in-Err-clause-left
-returns-in-Err-clause-left g c = recovered.opening_with true (g.D.Disk.disk c.args.disk.now) (g.D.Disk.disk c.load_anew.new.disk) c.load_anew.ensures.left
+returns-in-Err-clause-left g c = recovered.opening_with true (g.D.Disk.disk c.args.disk.now) (g.D.Disk.disk c.open_as.new.disk) c.open_as.ensures.left
 
 pub returns-in-Err-clause-stands : goal.returns-in-Err-clause-stands
-returns-in-Err-clause-stands g c = recovered.stands_opened true (g.D.Disk.disk c.args.disk.now) (g.D.Disk.disk c.load_anew.new.disk) (g.D.Disk.disk c.load_anew.new.disk).content c.load_anew.ensures.stands
+returns-in-Err-clause-stands g c = recovered.stands_opened true (g.D.Disk.disk c.args.disk.now) (g.D.Disk.disk c.open_as.new.disk) (g.D.Disk.disk c.open_as.new.disk).content c.open_as.ensures.stands
 
 pub returns-in-Ok-clause-told : goal.returns-in-Ok-clause-told
 returns-in-Ok-clause-told g c =
-    let v = g.D.Disk.disk c.load_anew.new.disk in
+    let v = g.D.Disk.disk c.open_as.new.disk in
     let w = g.D.Disk.disk c.close.new.disk in
     IfOk-weaker c.close.result (λ _. (x : Contents) → IsOpen v true x (length x.sequence) c.in-Ok.site → StandsFor w (marked x)) _
     (λ n done. recovered.closed true (g.D.Disk.disk c.args.disk.now) v w c.in-Ok.site (g.met.D.Disk.lawful c.args.disk.now) c.in-Ok.ensures.told done) c.close.ensures.done
@@ -34,7 +35,7 @@ pub returns-in-Ok-clause-held : goal.returns-in-Ok-clause-held
 returns-in-Ok-clause-held g c =
     let u = g.D.Disk.disk c.args.disk.now in
     let s = c.in-Ok.site in
-    let Held = λ (files : Files). (x : Records) × (seq : Sequence) × AreRecords files x × IsSequence x seq × WasOpenedFrom x seq s in
+    let Held = λ (files : Files). (x : Records) × (seq : Sequence) × AreRecords files x × IsSequence x seq × WasOpenedFrom x seq s × (true ≡ false → NoneIsWithout x (length seq)) in
     let Room = λ (files : Files). (rs : List InstanceRecord) → IsInstance (files INSTANCE) rs → generation rs < 65534 in
     IfOk-weaker c.close.result (λ n. n ≡ count_of s) _ (λ n count.
     both_weak u.content Held Room (λ files. (x : Records) × (seq : Sequence) × AreRecords files x × IsSequence x seq × (n ≡ length seq) × (generation x.instance < 65534)) c.in-Ok.ensures.held c.in-Ok.ensures.drawn
@@ -43,10 +44,10 @@ returns-in-Ok-clause-held g c =
     (h.0, h.1, h.2, h.3, count ∙ size, room h.0.instance h.2.instance))) c.close.ensures.length
 
 pub returns-in-Ok-clause-any_moment : goal.returns-in-Ok-clause-any_moment
-returns-in-Ok-clause-any_moment g c = recovered.closing true (g.D.Disk.disk c.args.disk.now) (g.D.Disk.disk c.load_anew.new.disk) (g.D.Disk.disk c.close.new.disk) c.in-Ok.site (g.met.D.Disk.lawful c.args.disk.now) c.in-Ok.ensures.told c.close.ensures.any_moment c.load_anew.ensures.any_moment
+returns-in-Ok-clause-any_moment g c = recovered.closing true (g.D.Disk.disk c.args.disk.now) (g.D.Disk.disk c.open_as.new.disk) (g.D.Disk.disk c.close.new.disk) c.in-Ok.site (g.met.D.Disk.lawful c.args.disk.now) c.in-Ok.ensures.told c.close.ensures.any_moment c.open_as.ensures.any_moment
 
 pub returns-in-Ok-clause-left : goal.returns-in-Ok-clause-left
-returns-in-Ok-clause-left g c = recovered.closing_with true (g.D.Disk.disk c.args.disk.now) (g.D.Disk.disk c.load_anew.new.disk) (g.D.Disk.disk c.close.new.disk) c.in-Ok.site (g.met.D.Disk.lawful c.args.disk.now) c.in-Ok.ensures.told c.close.ensures.left c.load_anew.ensures.left
+returns-in-Ok-clause-left g c = recovered.closing_with true (g.D.Disk.disk c.args.disk.now) (g.D.Disk.disk c.open_as.new.disk) (g.D.Disk.disk c.close.new.disk) c.in-Ok.site (g.met.D.Disk.lawful c.args.disk.now) c.in-Ok.ensures.told c.close.ensures.left c.open_as.ensures.left
 
 pub returns-in-Ok-clause-stands : goal.returns-in-Ok-clause-stands
-returns-in-Ok-clause-stands g c = recovered.stands_closing true (g.D.Disk.disk c.args.disk.now) (g.D.Disk.disk c.load_anew.new.disk) (g.D.Disk.disk c.close.new.disk) c.in-Ok.site (g.met.D.Disk.lawful c.args.disk.now) c.in-Ok.ensures.told c.close.ensures.stands
+returns-in-Ok-clause-stands g c = recovered.stands_closing true (g.D.Disk.disk c.args.disk.now) (g.D.Disk.disk c.open_as.new.disk) (g.D.Disk.disk c.close.new.disk) c.in-Ok.site (g.met.D.Disk.lawful c.args.disk.now) c.in-Ok.ensures.told c.close.ensures.stands

@@ -3,7 +3,7 @@ use Rattle.disk_defs.proofs.Frames.{others_then}
 use Rattle.journal_defs.specs.Numbers.{INSTANCE}
 use Rattle.journal_defs.specs.Instance.{Mode}
 use Rattle.site_files.proofs.Cutting.{cut_stands}
-use Rattle.site_store.proofs.Mapped.{has_images}
+use Rattle.site_store.proofs.Appended.{has_images}
 use Rattle.mupip_rollback.proofs.setting.append_mode.Goals as goal
 
 pub returns-in-Ok-mode-clause-images : goal.returns-in-Ok-mode-clause-images

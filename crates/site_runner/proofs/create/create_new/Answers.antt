@@ -1,43 +1,67 @@
-use Rattle.std.proofs.Common.{ℕ, List, Some, None, ◌++◌, ◌<◌, length, map, ◌∙◌, ap, subst}
-use Rattle.std.specs.Prelude.{codes}
-use Rattle.world_defs.specs.rows.Create as rows
-use Rattle.repl_script.specs.Commands.{region_value}
+use Rattle.std.proofs.Common.{◌++◌, ℕ, List, sym, ◌∙◌, ap, subst, length, map}
+use Rattle.std.specs.Prelude.{OnOk, OnErr, codes}
+use Rattle.command_defs.specs.Commands.{Create}
 use Rattle.world_defs.specs.Answers.{line}
+use Rattle.repl_script.specs.Commands.{region_value}
 use Rattle.site_runner.specs.declared.slot.Slot.{Slot}
-use Rattle.site_runner.specs.Executes.{ExecutesHere, IsCutHere}
-use Rattle.site_runner.proofs.Results.{on_any, on_refused, on_errs, err_so}
-use Rattle.site_runner.proofs.Next.{free_so}
-use Rattle.site_runner.proofs.CreateLifts.{create_lifted, create_cut, no_disk_left, create_not_begun}
+use Rattle.site_runner.specs.declared.slot.Slot.TheVariants.{Free}
+use Rattle.site_runner.specs.Executes.{Executes, IsCutOff}
+use Rattle.site_runner.specs.Sites.{AreReady}
+use Rattle.site_runner.proofs.Results.{on_ok, on_refused, err_so, ok_so}
+use Rattle.site_runner.proofs.Lifts.{put_back_is, still_inside, ready_back, length_back}
+use Rattle.site_runner.proofs.CreateLifts.{no_disk_left, create_not_begun, create_done, create_cut_off}
 use Rattle.site_runner.proofs.create.create_new.Goals as goal
+
+pub returns-in-None-clause-ready : goal.returns-in-None-clause-ready
+returns-in-None-clause-ready g c = ok_so c.refuse.result _ (subst (λ (x : List (Slot g.row.D.Denot)). AreReady g.D.Disk.disk x) (sym c.in-None.ensures.none) c.requires.ready)
 
 pub returns-in-None-clause-done : goal.returns-in-None-clause-done
 returns-in-None-clause-done g c =
-    on_refused c.refuse.result _ _ c.refuse.ensures (λ t. no_disk_left g.D.Disk.disk c.args.name (map region_value c.args.regions.now) c.args.slots.now.items c.args.text.now c.refuse.new.text c.requires.none
-    (free_so c.args.slots.now.items c.deref.result.now None c.deref.ensures.value c.in-None.ensures.place) (t ∙ ap (λ (x : List ℕ). c.args.text.now ++ line x (codes "NODISK")) c.as_slice.ensures))
+    let xs = c.args.slots.now.items in
+    let regions = map region_value c.args.regions.now in
+    subst (λ (x : List (Slot g.row.D.Denot)). OnOk c.refuse.result (Executes g.D.Disk.disk (Create c.args.name regions) xs x c.args.text.now c.refuse.new.text)) (sym c.in-None.ensures.none)
+    (on_refused c.refuse.result _ _ c.refuse.ensures (λ t.
+    no_disk_left g.D.Disk.disk c.args.name regions xs c.args.text.now c.refuse.new.text c.requires.none (sym c.in-None.ensures.place) (t ∙ ap (λ (x : List ℕ). c.args.text.now ++ line x (codes "NODISK")) c.as_slice.ensures)))
 
 pub returns-in-None-clause-cut_off : goal.returns-in-None-clause-cut_off
-returns-in-None-clause-cut_off g c = err_so c.refuse.result _ (create_not_begun g.D.Disk.disk c.args.name (map region_value c.args.regions.now) c.args.slots.now.items)
+returns-in-None-clause-cut_off g c =
+    let xs = c.args.slots.now.items in
+    let regions = map region_value c.args.regions.now in
+    subst (λ (x : List (Slot g.row.D.Denot)). OnErr c.refuse.result (IsCutOff g.D.Disk.disk (Create c.args.name regions) xs x)) (sym c.in-None.ensures.none) (err_so c.refuse.result _ (create_not_begun g.D.Disk.disk c.args.name regions xs))
+
+pub put_back-requires-clause-inside : goal.put_back-requires-clause-inside
+put_back-requires-clause-inside g c = let taken = c.in-Some.ensures.taken in still_inside c.args.slots.now.items c.take_free.new.slots.items c.in-Some.i (Free c.in-Some.disk) taken.0 taken.1
+
+pub returns-in-Some-clause-ready : goal.returns-in-Some-clause-ready
+returns-in-Some-clause-ready g c =
+    let taken = c.in-Some.ensures.taken in
+    let left = c.create_at-slot.result in
+    on_ok left.1 _ _ c.create_at-slot.ensures.ready (λ r. ready_back g.D.Disk.disk c.args.slots.now.items c.take_free.new.slots.items c.put_back.new.slots.items c.in-Some.i (Free c.in-Some.disk) left.0 taken.0 taken.1 c.put_back.ensures c.requires.ready r)
 
 pub returns-in-Some-clause-done : goal.returns-in-Some-clause-done
 returns-in-Some-clause-done g c =
     let xs = c.args.slots.now.items in
-    let i = c.in-Some.i in
-    let d = c.index_mut.result.now in
-    let s = c.create_at.new.slot in
     let regions = map region_value c.args.regions.now in
-    let k : i < length xs = subst (λ (x : List (Slot g.row.D.Denot)). i < length x) c.deref.ensures.value c.in-Some.ensures.inside in
-    on_any c.create_at.result _ _ c.create_at.ensures.done (λ done h. create_lifted g.D.Disk.disk c.args.name regions xs i d s c.args.text.now c.create_at.new.text done k c.requires.none
-    (free_so xs c.deref.result.now (Some i) c.deref.ensures.value c.in-Some.ensures.place)
-    (subst (λ (x : Slot g.row.D.Denot). ExecutesHere g.D.Disk.disk (rows.create regions c.args.name) x s c.args.text.now c.create_at.new.text done) c.index_mut.ensures.value h))
+    let taken = c.in-Some.ensures.taken in
+    let left = c.create_at-slot.result in
+    let back = put_back_is xs c.take_free.new.slots.items c.put_back.new.slots.items c.in-Some.i (Free c.in-Some.disk) left.0 taken.0 taken.1 c.put_back.ensures in
+    subst (λ (x : List (Slot g.row.D.Denot)). OnOk left.1 (Executes g.D.Disk.disk (Create c.args.name regions) xs x c.args.text.now c.create_at-slot.new.text)) (sym back)
+    (create_done g.D.Disk.disk c.args.name regions xs c.in-Some.i (Free c.in-Some.disk) left c.args.text.now c.create_at-slot.new.text taken.0 c.requires.none (sym c.in-Some.ensures.place) c.create_at-slot.ensures.left)
 
 pub returns-in-Some-clause-cut_off : goal.returns-in-Some-clause-cut_off
 returns-in-Some-clause-cut_off g c =
     let xs = c.args.slots.now.items in
-    let i = c.in-Some.i in
-    let d = c.index_mut.result.now in
-    let s = c.create_at.new.slot in
     let regions = map region_value c.args.regions.now in
-    let k : i < length xs = subst (λ (x : List (Slot g.row.D.Denot)). i < length x) c.deref.ensures.value c.in-Some.ensures.inside in
-    on_errs c.create_at.result _ _ c.create_at.ensures.cut_off (λ h. create_cut g.D.Disk.disk c.args.name regions xs i d s k c.requires.none
-    (free_so xs c.deref.result.now (Some i) c.deref.ensures.value c.in-Some.ensures.place)
-    (subst (λ (x : Slot g.row.D.Denot). IsCutHere g.D.Disk.disk (rows.create regions c.args.name) x s) c.index_mut.ensures.value h))
+    let taken = c.in-Some.ensures.taken in
+    let left = c.create_at-slot.result in
+    let back = put_back_is xs c.take_free.new.slots.items c.put_back.new.slots.items c.in-Some.i (Free c.in-Some.disk) left.0 taken.0 taken.1 c.put_back.ensures in
+    subst (λ (x : List (Slot g.row.D.Denot)). OnErr left.1 (IsCutOff g.D.Disk.disk (Create c.args.name regions) xs x)) (sym back)
+    (create_cut_off g.D.Disk.disk c.args.name regions xs c.in-Some.i (Free c.in-Some.disk) left c.args.text.now c.create_at-slot.new.text taken.0 c.requires.none (sym c.in-Some.ensures.place) c.create_at-slot.ensures.left)
+
+pub returns-in-None-clause-length : goal.returns-in-None-clause-length
+returns-in-None-clause-length g c = ap (λ (x : List (Slot g.row.D.Denot)). length x) c.in-None.ensures.none
+
+pub returns-in-Some-clause-length : goal.returns-in-Some-clause-length
+returns-in-Some-clause-length g c =
+    let taken = c.in-Some.ensures.taken in
+    length_back c.args.slots.now.items c.take_free.new.slots.items c.put_back.new.slots.items c.in-Some.i (Free c.in-Some.disk) c.create_at-slot.result.0 taken.0 taken.1 c.put_back.ensures

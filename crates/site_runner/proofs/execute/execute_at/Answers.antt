@@ -1,10 +1,11 @@
+use Rattle.std.proofs.Common.{sym, ◌∙◌, ap}
+use Rattle.std.proofs.lemmas.Bool.{false≢true}
 use Rattle.repl_script.specs.Commands.{command_value}
-use Rattle.site_runner.specs.Named.{row_on}
-use Rattle.site_runner.proofs.Stopped.{slot_done, slot_cut}
+use Rattle.site_runner.specs.declared.slot.Slot.{Slot}
+use Rattle.site_runner.specs.Named.{name_in}
+use Rattle.site_runner.specs.Sites.{is_slot_named}
 use Rattle.site_runner.proofs.execute.execute_at.Goals as goal
 
-pub returns-clause-done : goal.returns-clause-done
-returns-clause-done g c = slot_done g.D.Disk.disk (row_on (command_value c.args.command)) c.args.slot.now c.execute_on.new.disk c.in-Some.site c.execute_on.new.site c.execute_on.result c.in-Some.is c.args.text.now c.execute_on.new.text c.execute_on.ensures.done
-
-pub returns-clause-cut_off : goal.returns-clause-cut_off
-returns-clause-cut_off g c = slot_cut g.D.Disk.disk (row_on (command_value c.args.command)) c.args.slot.now c.execute_on.new.disk c.in-Some.site c.execute_on.new.site c.execute_on.result c.in-Some.is c.execute_on.ensures.cut_off
+-- no site stands on a disk without one
+pub returns-in-Free-clause-left : goal.returns-in-Free-clause-left
+returns-in-Free-clause-left g c = let name = name_in (command_value c.args.command) in absurd (false≢true (sym (ap (λ (x : Slot g.row.D.Denot). is_slot_named name x) c.in-Free.is) ∙ c.requires.site))

@@ -1,14 +1,14 @@
-use Rattle.std.proofs.Common.{◌≡◌, ℕ, List, Some, None, ◌++◌, ◌<◌, length, sym, ◌∙◌, ap, subst}
-use Rattle.std.specs.Prelude.{Option, codes}
+use Rattle.std.proofs.Common.{◌≡◌, ℕ, List, Some, None, ◌++◌, sym, ◌∙◌, ap, subst}
+use Rattle.std.specs.Prelude.{Option, OnOk, OnErr, codes}
 use Rattle.site_defs.specs.Lists.{first_where}
 use Rattle.world_defs.specs.Answers.{line}
+use Rattle.repl_script.specs.Commands.{command_value}
 use Rattle.site_runner.specs.declared.slot.Slot.{Slot}
 use Rattle.site_runner.specs.Sites.{is_slot_named}
-use Rattle.repl_script.specs.Commands.{command_value}
-use Rattle.site_runner.specs.Executes.{ExecutesHere, IsCutHere}
-use Rattle.site_runner.specs.Named.{name_in, row_in}
-use Rattle.site_runner.proofs.Results.{on_any, on_refused, on_errs, err_so}
-use Rattle.site_runner.proofs.Lifts.{named_lifted, named_cut, no_site, no_site_cut, passes_there}
+use Rattle.site_runner.specs.Executes.{Executes, IsCutOff}
+use Rattle.site_runner.specs.Named.{name_in}
+use Rattle.site_runner.proofs.Results.{on_ok, on_refused, err_so, ok_so}
+use Rattle.site_runner.proofs.Lifts.{named_done, named_cut_off, no_site, no_site_cut, passes_there, taken_out, ready_there, put_back_is, still_inside, ready_back, length_back}
 use Rattle.site_runner.proofs.execute.execute_named.Goals as goal
 
 -- where the search went, over the slots and by the command's name
@@ -16,11 +16,28 @@ found_so : {D : Type 0} (name n : List ℕ) (slots xs : List (Slot D)) (o : Opti
 found_so {D} name n slots xs o e s f =
     ap (λ (x : List ℕ). first_where (is_slot_named x) slots) (sym e) ∙ ap (λ (x : List (Slot D)). first_where (is_slot_named n) x) (sym s) ∙ sym f
 
-pub execute_at-requires-clause-site : goal.execute_at-requires-clause-site
-execute_at-requires-clause-site g c =
+pub execute_at-slot-requires-clause-site : goal.execute_at-slot-requires-clause-site
+execute_at-slot-requires-clause-site g c =
     let name = name_in (command_value c.args.command) in
-    let f = found_so name c.as_slice-name.result.now c.args.slots.now.items c.deref.result.now (Some c.in-Some.i) (c.as_slice-name.ensures ∙ c.name_of.ensures) c.deref.ensures.value c.in-Some.ensures.place in
-    ap (is_slot_named name) c.index_mut.ensures.value ∙ passes_there (is_slot_named name) c.args.slots.now.items c.in-Some.i c.index_mut.result.now f
+    let xs = c.args.slots.now.items in
+    let x = c.remove-slot.result in
+    let f = found_so name c.as_slice-name.result.now xs c.deref.result.now (Some c.in-Some.i) (c.as_slice-name.ensures ∙ c.name_of.ensures) c.deref.ensures.value c.in-Some.ensures.place in
+    passes_there (is_slot_named name) xs c.in-Some.i x (taken_out xs c.deref.result.now c.in-Some.i x c.deref.ensures.value c.in-Some.ensures.inside c.remove-slot.ensures.value) f
+
+pub execute_at-slot-requires-clause-ready : goal.execute_at-slot-requires-clause-ready
+execute_at-slot-requires-clause-ready g c =
+    let xs = c.args.slots.now.items in
+    let x = c.remove-slot.result in
+    ready_there g.D.Disk.disk xs c.in-Some.i x (taken_out xs c.deref.result.now c.in-Some.i x c.deref.ensures.value c.in-Some.ensures.inside c.remove-slot.ensures.value) c.requires.ready
+
+pub put_back-requires-clause-inside : goal.put_back-requires-clause-inside
+put_back-requires-clause-inside g c =
+    let xs = c.args.slots.now.items in
+    let x = c.remove-slot.result in
+    still_inside xs c.remove-slot.new.self.items c.in-Some.i x (taken_out xs c.deref.result.now c.in-Some.i x c.deref.ensures.value c.in-Some.ensures.inside c.remove-slot.ensures.value) c.remove-slot.ensures.items
+
+pub returns-in-None-clause-ready : goal.returns-in-None-clause-ready
+returns-in-None-clause-ready g c = ok_so c.refuse.result _ c.requires.ready
 
 pub returns-in-None-clause-done : goal.returns-in-None-clause-done
 returns-in-None-clause-done g c =
@@ -33,26 +50,42 @@ returns-in-None-clause-done g c =
 pub returns-in-None-clause-cut_off : goal.returns-in-None-clause-cut_off
 returns-in-None-clause-cut_off g c = err_so c.refuse.result _ (no_site_cut g.D.Disk.disk (command_value c.args.command) c.args.slots.now.items c.requires.command)
 
+pub returns-in-Some-clause-ready : goal.returns-in-Some-clause-ready
+returns-in-Some-clause-ready g c =
+    let xs = c.args.slots.now.items in
+    let x = c.remove-slot.result in
+    let left = c.execute_at-slot.result in
+    on_ok left.1 _ _ c.execute_at-slot.ensures.ready (λ r. ready_back g.D.Disk.disk xs c.remove-slot.new.self.items c.put_back.new.slots.items c.in-Some.i x left.0
+    (taken_out xs c.deref.result.now c.in-Some.i x c.deref.ensures.value c.in-Some.ensures.inside c.remove-slot.ensures.value) c.remove-slot.ensures.items c.put_back.ensures c.requires.ready r)
+
 pub returns-in-Some-clause-done : goal.returns-in-Some-clause-done
 returns-in-Some-clause-done g c =
     let cmd = command_value c.args.command in
     let xs = c.args.slots.now.items in
     let i = c.in-Some.i in
-    let d = c.index_mut.result.now in
-    let s = c.execute_at.new.slot in
+    let x = c.remove-slot.result in
+    let left = c.execute_at-slot.result in
     let f = found_so (name_in cmd) c.as_slice-name.result.now xs c.deref.result.now (Some i) (c.as_slice-name.ensures ∙ c.name_of.ensures) c.deref.ensures.value c.in-Some.ensures.place in
-    let k : i < length xs = subst (λ (x : List (Slot g.row.D.Denot)). i < length x) c.deref.ensures.value c.in-Some.ensures.inside in
-    on_any c.execute_at.result _ _ c.execute_at.ensures.done (λ done h. named_lifted g.D.Disk.disk cmd xs c.requires.command i d s c.args.text.now c.execute_at.new.text done k f
-    (subst (λ (x : Slot g.row.D.Denot). ExecutesHere g.D.Disk.disk (row_in cmd) x s c.args.text.now c.execute_at.new.text done) c.index_mut.ensures.value h))
+    let k = taken_out xs c.deref.result.now i x c.deref.ensures.value c.in-Some.ensures.inside c.remove-slot.ensures.value in
+    let back = put_back_is xs c.remove-slot.new.self.items c.put_back.new.slots.items i x left.0 k c.remove-slot.ensures.items c.put_back.ensures in
+    subst (λ (l : List (Slot g.row.D.Denot)). OnOk left.1 (Executes g.D.Disk.disk cmd xs l c.args.text.now c.execute_at-slot.new.text)) (sym back)
+    (named_done g.D.Disk.disk cmd xs c.requires.command i x left c.args.text.now c.execute_at-slot.new.text k f c.execute_at-slot.ensures.left)
 
 pub returns-in-Some-clause-cut_off : goal.returns-in-Some-clause-cut_off
 returns-in-Some-clause-cut_off g c =
     let cmd = command_value c.args.command in
     let xs = c.args.slots.now.items in
     let i = c.in-Some.i in
-    let d = c.index_mut.result.now in
-    let s = c.execute_at.new.slot in
+    let x = c.remove-slot.result in
+    let left = c.execute_at-slot.result in
     let f = found_so (name_in cmd) c.as_slice-name.result.now xs c.deref.result.now (Some i) (c.as_slice-name.ensures ∙ c.name_of.ensures) c.deref.ensures.value c.in-Some.ensures.place in
-    let k : i < length xs = subst (λ (x : List (Slot g.row.D.Denot)). i < length x) c.deref.ensures.value c.in-Some.ensures.inside in
-    on_errs c.execute_at.result _ _ c.execute_at.ensures.cut_off (λ h. named_cut g.D.Disk.disk cmd xs c.requires.command i d s k f
-    (subst (λ (x : Slot g.row.D.Denot). IsCutHere g.D.Disk.disk (row_in cmd) x s) c.index_mut.ensures.value h))
+    let k = taken_out xs c.deref.result.now i x c.deref.ensures.value c.in-Some.ensures.inside c.remove-slot.ensures.value in
+    let back = put_back_is xs c.remove-slot.new.self.items c.put_back.new.slots.items i x left.0 k c.remove-slot.ensures.items c.put_back.ensures in
+    subst (λ (l : List (Slot g.row.D.Denot)). OnErr left.1 (IsCutOff g.D.Disk.disk cmd xs l)) (sym back)
+    (named_cut_off g.D.Disk.disk cmd xs c.requires.command i x left c.args.text.now c.execute_at-slot.new.text k f c.execute_at-slot.ensures.left)
+
+pub returns-in-Some-clause-length : goal.returns-in-Some-clause-length
+returns-in-Some-clause-length g c =
+    let xs = c.args.slots.now.items in
+    let x = c.remove-slot.result in
+    length_back xs c.remove-slot.new.self.items c.put_back.new.slots.items c.in-Some.i x c.execute_at-slot.result.0 (taken_out xs c.deref.result.now c.in-Some.i x c.deref.ensures.value c.in-Some.ensures.inside c.remove-slot.ensures.value) c.remove-slot.ensures.items c.put_back.ensures

@@ -1,18 +1,9 @@
-use Rattle.world_defs.specs.Row.{why_not_down}
+use Rattle.std.proofs.Common.{ap}
 use Rattle.world_defs.specs.rows.Map.{map_pattern}
-use Rattle.site_runner.specs.Causes.{cause_value}
-use Rattle.site_runner.specs.Sites.{state_value}
-use Rattle.site_runner.proofs.Ats.{kept_same, refuses_by, why_is, is_down}
-use Rattle.site_runner.proofs.Mapped.{map_not_down, map_early}
+use Rattle.site_runner.proofs.Stopped.{closed_leaves}
 use Rattle.site_runner.proofs.mapping.map.Goals as goal
 
-pub returns-in-Some-clause-done : goal.returns-in-Some-clause-done
-returns-in-Some-clause-done g c =
-    let v = g.D.Disk.disk c.args.disk.now in
-    let s = c.args.site.now in
-    let why = why_is c.why_not_down.result c.in-Some.cause (why_not_down (state_value s.state)) c.why_not_down.ensures c.in-Some.is in
-    refuses_by (map_pattern c.args.region c.args.pattern.now s.name) v s c.in-Some.cause c.args.text.now _ c.as_slice.result.now c.refuse.result
-    (λ p h. map_not_down v s c.args.region c.args.pattern.now (cause_value c.in-Some.cause) p why h) kept_same (λ p. map_early c.args.region c.args.pattern.now s.name (state_value s.state) (cause_value c.in-Some.cause) p why) c.as_slice.ensures c.refuse.ensures
-
-pub map_down-requires-clause-down : goal.map_down-requires-clause-down
-map_down-requires-clause-down g c = is_down c.args.site.now.state c.why_not_down.result c.why_not_down.ensures c.in_default.is
+pub returns-clause-left : goal.returns-clause-left
+returns-clause-left g c =
+    let e = c.closed.ensures in
+    closed_leaves g.D.Disk.disk (map_pattern c.args.region c.args.pattern.now) c.args.disk c.args.name c.as_slice.result.now _ c.closed.result c.map_down-ended.result c.args.text.now c.map_down-ended.new.text c.as_slice.ensures (ap g.D.Disk.disk e.disk) e.site e.ended c.map_down-ended.ensures.done c.map_down-ended.ensures.cut_off

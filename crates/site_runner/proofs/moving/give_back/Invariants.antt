@@ -1,10 +1,10 @@
 use Rattle.std.proofs.Common.{◌≡◌, ◌+◌, ◌≤◌, ◌++◌, map, reverse, length, vec_len, vec_capacity}
-use Rattle.site_runner.specs.Moved.{disk_of}
 use Rattle.site_runner.proofs.moving.give_back.Given as goal
+use Rattle.site_runner.specs.Sites.{disk_in}
 
 abbrev pub invariant-loop-slot : goal.invariant-loop-slot
 invariant-loop-slot g l = record {
-  split : map disk_of l.fn.slots.items ≡ l.disks.items ++ reverse (map disk_of l.slots.items);
+  split : map disk_in l.fn.slots.items ≡ l.disks.items ++ reverse (map disk_in l.slots.items);
   room : length l.disks.items + length l.slots.items ≤ vec_capacity l.disks;
 }
 

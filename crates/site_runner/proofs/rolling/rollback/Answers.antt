@@ -1,18 +1,9 @@
-use Rattle.world_defs.specs.Row.{why_not_down}
-use Rattle.world_defs.specs.rows.Rollback as rows
-use Rattle.site_runner.specs.Causes.{cause_value}
-use Rattle.site_runner.specs.Sites.{state_value}
-use Rattle.site_runner.proofs.Ats.{kept_same, refuses_by, why_is, is_down}
-use Rattle.site_runner.proofs.Rolled.{rollback_not_down, rollback_early}
+use Rattle.std.proofs.Common.{ap}
+use Rattle.world_defs.specs.rows.Rollback.{rollback}
+use Rattle.site_runner.proofs.Stopped.{closed_leaves}
 use Rattle.site_runner.proofs.rolling.rollback.Goals as goal
 
-pub returns-in-Some-clause-done : goal.returns-in-Some-clause-done
-returns-in-Some-clause-done g c =
-    let v = g.D.Disk.disk c.args.disk.now in
-    let s = c.args.site.now in
-    let why = why_is c.why_not_down.result c.in-Some.cause (why_not_down (state_value s.state)) c.why_not_down.ensures c.in-Some.is in
-    refuses_by (rows.rollback c.args.number s.name) v s c.in-Some.cause c.args.text.now _ c.as_slice.result.now c.refuse.result
-    (λ p h. rollback_not_down c.args.number v s (cause_value c.in-Some.cause) p why h) kept_same (λ p. rollback_early c.args.number (state_value s.state) (cause_value c.in-Some.cause) p why) c.as_slice.ensures c.refuse.ensures
-
-pub roll_down-requires-clause-down : goal.roll_down-requires-clause-down
-roll_down-requires-clause-down g c = is_down c.args.site.now.state c.why_not_down.result c.why_not_down.ensures c.in_default.is
+pub returns-clause-left : goal.returns-clause-left
+returns-clause-left g c =
+    let e = c.closed.ensures in
+    closed_leaves g.D.Disk.disk (rollback c.args.number) c.args.disk c.args.name c.as_slice.result.now _ c.closed.result c.roll_down-ended.result c.args.text.now c.roll_down-ended.new.text c.as_slice.ensures (ap g.D.Disk.disk e.disk) e.site e.ended c.roll_down-ended.ensures.done c.roll_down-ended.ensures.cut_off

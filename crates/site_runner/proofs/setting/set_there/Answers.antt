@@ -1,33 +1,34 @@
-use Rattle.std.proofs.Common.{Bool, ap, ◌∙◌, Err}
-use Rattle.site_runner.specs.declared.slot.Site.{Site}
+use Rattle.std.proofs.Common.{ap, ◌∙◌, Err, refl}
 use Rattle.world_defs.specs.rows.SetJournal.{SetBy}
 use Rattle.site_runner.specs.Setting.{SetsAt}
 use Rattle.site_runner.proofs.Ats.{on_not_done, on_failed, if_some}
 use Rattle.site_runner.proofs.Results.{err_holds}
 use Rattle.site_runner.proofs.Written.{not_a_file}
 use Rattle.site_runner.proofs.Moded.{moded, there_done, there_faulted, there_damaged, there_cut}
+use Rattle.site_runner.specs.Ending.{down, down_after, is_done_at}
+use Rattle.site_runner.specs.declared.ending.Ended.{Ended}
 use Rattle.site_runner.proofs.setting.set_there.Goals as goal
 
 pub returns-in_ok-write_mode-in-Ok-clause-done : goal.returns-in_ok-write_mode-in-Ok-clause-done
 returns-in_ok-write_mode-in-Ok-clause-done g c =
     let e = c.in-Ok.ensures in
-    there_done c.leftovers_hold.ensures c.args.region.now c.args.number c.args.before (g.D.Disk.disk c.args.disk.now) (g.D.Disk.disk c.set_mode_logged.new.disk) c.args.site.now c.args.text.now _
+    there_done c.leftovers_hold.ensures c.args.region.now c.args.number c.args.before (g.D.Disk.disk c.args.disk.now) (g.D.Disk.disk c.set_mode_logged.new.disk) (down c.args.name.now) c.args.text.now _
     (record { lawful = g.met.D.Disk.lawful c.set_mode_logged.new.disk; there = c.requires.there; any_moment = e.any_moment; left = e.left; still_told = e.still_told; simulated = e.simulated; later = e.faults.later })
-    c.requires.named e.reads e.images (if_some (g.D.Disk.disk c.args.disk.now).content _ (SetBy c.args.region.now c.args.site.now.name) (λ f i. (c.args.log.records, i, (c.requires.called, c.requires.unset))) c.requires.told) (moded c.args.text.now c.args.before c.as_slice.ensures c.as_slice-in-Ok.ensures c.in_ok-write_mode-in-Ok.ensures)
+    c.requires.named e.reads e.images (if_some (g.D.Disk.disk c.args.disk.now).content _ (SetBy c.args.region.now c.args.name.now) (λ f i. (c.args.log.records, i, (c.requires.called, c.requires.unset))) c.requires.told) (moded c.args.text.now c.args.before refl c.as_slice.ensures c.in_ok-write_mode-in-Ok.ensures)
 
 pub returns-in_err-write_mode-in-Ok-clause-cut_off : goal.returns-in_err-write_mode-in-Ok-clause-cut_off
 returns-in_err-write_mode-in-Ok-clause-cut_off g c =
     let e = c.in-Ok.ensures in
-    err_holds c.from_residual.result _ (there_cut c.leftovers_hold.ensures c.args.region.now c.args.number c.args.before (g.D.Disk.disk c.args.disk.now) (g.D.Disk.disk c.set_mode_logged.new.disk) c.args.site.now
+    err_holds c.from_residual.result _ (there_cut c.leftovers_hold.ensures c.args.region.now c.args.number c.args.before (g.D.Disk.disk c.args.disk.now) (g.D.Disk.disk c.set_mode_logged.new.disk) (down c.args.name.now)
     (record { lawful = g.met.D.Disk.lawful c.set_mode_logged.new.disk; there = c.requires.there; any_moment = e.any_moment; left = e.left; still_told = e.still_told; simulated = e.simulated; later = e.faults.later }))
 
 pub returns-in-Err-Failed-clause-done : goal.returns-in-Err-Failed-clause-done
 returns-in-Err-Failed-clause-done g c =
     let e = c.in-Err-Failed.ensures in
     let is = ap Err c.in-Err-Failed.field-0-is in
-    let s = c.args.site.now in
+    let s = (down c.args.name.now) in
     let w = g.D.Disk.disk c.set_mode_logged.new.disk in
-    on_failed c.fail.result c.fail.new.site _ _ (λ (x : Site) (done : Bool). SetsAt c.args.region.now c.args.before (g.D.Disk.disk c.args.disk.now) s w x c.args.text.now c.fail.new.text done) c.fail.ensures.failed (λ t.
+    on_failed c.fail.result _ _ (λ (x : Ended). SetsAt c.args.region.now c.args.before (g.D.Disk.disk c.args.disk.now) s w (down_after c.args.name.now x) c.args.text.now c.fail.new.text (is_done_at x)) c.fail.ensures (λ t.
     there_faulted c.leftovers_hold.ensures c.args.region.now c.args.number c.args.before (g.D.Disk.disk c.args.disk.now) w s _ c.args.text.now _
     (record { lawful = g.met.D.Disk.lawful c.set_mode_logged.new.disk; there = c.requires.there; any_moment = e.any_moment; left = e.left; still_told = e.still_told; simulated = e.simulated; later = e.faults.later })
     (c.in-Err-Failed.fault-is ∙ e.faults.count c.in-Err-Failed.fault is) (e.faults.cause c.in-Err-Failed.fault is) t)
@@ -35,7 +36,7 @@ returns-in-Err-Failed-clause-done g c =
 pub returns-in-Err-Failed-clause-cut_off : goal.returns-in-Err-Failed-clause-cut_off
 returns-in-Err-Failed-clause-cut_off g c =
     let e = c.in-Err-Failed.ensures in
-    err_holds c.fail.result _ (there_cut c.leftovers_hold.ensures c.args.region.now c.args.number c.args.before (g.D.Disk.disk c.args.disk.now) (g.D.Disk.disk c.set_mode_logged.new.disk) c.args.site.now
+    err_holds c.fail.result _ (there_cut c.leftovers_hold.ensures c.args.region.now c.args.number c.args.before (g.D.Disk.disk c.args.disk.now) (g.D.Disk.disk c.set_mode_logged.new.disk) (down c.args.name.now)
     (record { lawful = g.met.D.Disk.lawful c.set_mode_logged.new.disk; there = c.requires.there; any_moment = e.any_moment; left = e.left; still_told = e.still_told; simulated = e.simulated; later = e.faults.later }))
 
 pub returns-in-Err-NotAFile-clause-done : goal.returns-in-Err-NotAFile-clause-done
@@ -44,22 +45,21 @@ returns-in-Err-NotAFile-clause-done g c =
     let file = c.in-Err-NotAFile.file in
     let offset = c.in-Err-NotAFile.offset in
     on_not_done c.damaged.result _ _ c.damaged.ensures (λ t.
-    there_damaged c.args.region.now c.args.number c.args.before (g.D.Disk.disk c.args.disk.now) (g.D.Disk.disk c.set_mode_logged.new.disk) c.args.site.now file offset c.args.text.now _
+    there_damaged c.args.region.now c.args.number c.args.before (g.D.Disk.disk c.args.disk.now) (g.D.Disk.disk c.set_mode_logged.new.disk) (down c.args.name.now) file offset c.args.text.now _
     (record { lawful = g.met.D.Disk.lawful c.set_mode_logged.new.disk; there = c.requires.there; any_moment = e.any_moment; left = e.left; still_told = e.still_told; simulated = e.simulated; later = e.faults.later })
-    (e.outside file offset (ap Err c.in-Err-NotAFile.field-0-is)) (not_a_file _ c.in-Err-NotAFile.file-is c.in-Err-NotAFile.offset-is c.as_slice-in-Err-NotAFile.ensures t))
+    (e.outside file offset (ap Err c.in-Err-NotAFile.field-0-is)) (not_a_file _ c.in-Err-NotAFile.file-is c.in-Err-NotAFile.offset-is refl t))
 
 pub returns-in-Err-NotAFile-clause-cut_off : goal.returns-in-Err-NotAFile-clause-cut_off
 returns-in-Err-NotAFile-clause-cut_off g c =
     let e = c.in-Err-NotAFile.ensures in
-    err_holds c.damaged.result _ (there_cut c.leftovers_hold.ensures c.args.region.now c.args.number c.args.before (g.D.Disk.disk c.args.disk.now) (g.D.Disk.disk c.set_mode_logged.new.disk) c.args.site.now
+    err_holds c.damaged.result _ (there_cut c.leftovers_hold.ensures c.args.region.now c.args.number c.args.before (g.D.Disk.disk c.args.disk.now) (g.D.Disk.disk c.set_mode_logged.new.disk) (down c.args.name.now)
     (record { lawful = g.met.D.Disk.lawful c.set_mode_logged.new.disk; there = c.requires.there; any_moment = e.any_moment; left = e.left; still_told = e.still_told; simulated = e.simulated; later = e.faults.later }))
 
 pub returns-in-Err : goal.returns-in-Err
 returns-in-Err g c =
     let e = c.in-Err.ensures in
     record {
-      ready = tt;
       done = tt;
-      cut_off = there_cut c.leftovers_hold.ensures c.args.region.now c.args.number c.args.before (g.D.Disk.disk c.args.disk.now) (g.D.Disk.disk c.set_mode_logged.new.disk) c.args.site.now
+      cut_off = there_cut c.leftovers_hold.ensures c.args.region.now c.args.number c.args.before (g.D.Disk.disk c.args.disk.now) (g.D.Disk.disk c.set_mode_logged.new.disk) (down c.args.name.now)
           (record { lawful = g.met.D.Disk.lawful c.set_mode_logged.new.disk; there = c.requires.there; any_moment = e.any_moment; left = e.left; still_told = e.still_told; simulated = e.simulated; later = e.faults.later });
     }

@@ -1,69 +1,88 @@
-use Rattle.std.proofs.Common.{Bool, false, ◌≡◌, ◌++◌, ◌+◌, ℕ, List, refl, ◌∙◌, ap, subst, sym, Err}
-use Rattle.std.specs.Prelude.{codes}
+use Rattle.std.proofs.Common.{◌≡◌, false, ◌+◌, ℕ, refl, ◌∙◌, ap, subst, sym, Err, Some}
+use Rattle.std.specs.Prelude.{IfOk}
 use Rattle.entry_index.specs.Found.{entry_count}
+use Rattle.site_store.specs.declared.error.SiteError.TheVariants as error
+use Rattle.site_store.specs.declared.site.Site.{Site}
 use Rattle.site_store.specs.Site.{count_of}
-use Rattle.world_defs.specs.Answers.{line}
-use Rattle.site_runner.specs.Starting.{BeginsAt}
-use Rattle.site_runner.specs.declared.slot.Site.{Site}
-use Rattle.site_runner.proofs.Ats.{on_not_done, on_failed}
-use Rattle.site_runner.proofs.Results.{err_holds}
+use Rattle.site_store.specs.Owning.{disk_of, memory_of}
+use Rattle.site_runner.specs.declared.ending.Ended.TheVariants.{Done}
+use Rattle.site_runner.specs.Ending.{down, down_after, primary_after}
+use Rattle.site_runner.specs.Sites.{site_in}
+use Rattle.site_runner.proofs.Ats.{on_not_done, on_failed, nothing_in}
+use Rattle.site_runner.proofs.Results.{err_holds, ok_so, on_written}
 use Rattle.site_runner.proofs.Written.{named}
-use Rattle.site_runner.proofs.Started.{reign_starts, reign_limited, reign_faulted, reign_cut}
+use Rattle.site_runner.proofs.Started.{Begins, begins_by, reign_starts, reign_limited, reign_faulted, reign_cut}
 use Rattle.site_runner.proofs.start.begin.Goals as goal
 
-pub returns-in_err-write_primary-in-Ok-clause-cut_off : goal.returns-in_err-write_primary-in-Ok-clause-cut_off
-returns-in_err-write_primary-in-Ok-clause-cut_off g c =
+pub returns-in-Ok-new-clause-left : goal.returns-in-Ok-new-clause-left
+returns-in-Ok-new-clause-left g c =
     let e = c.in-Ok.ensures in
-    err_holds c.from_residual.result _ (reign_cut c.leftovers_hold.ensures (g.D.Disk.disk c.args.disk.now) (g.D.Disk.disk c.start_reign.new.disk) c.args.site.now c.args.opened
-    (record { lawful = g.met.D.Disk.lawful c.start_reign.new.disk; any_moment = e.any_moment; left = e.left; still_told = e.still_told; simulated = e.simulated; later = e.faults.later }))
+    let o = c.opened.ensures in
+    let v = g.D.Disk.disk (disk_of c.args.site) in
+    let w = g.D.Disk.disk (disk_of c.start_reign.new.self) in
+    let goes = c.requires.ready.fault in
+    let is_from : c.sequence_length-from.result + 1 ≡ count_of (memory_of c.args.site) + 1 = ap (λ (k : ℕ). k + 1) (c.sequence_length-from.ensures ∙ ap entry_count e.entries) in
+    begins_by g.D.Disk.disk v w (memory_of c.args.site) c.args.name (primary_after c.args.name (record { site = c.start_reign.new.self; serials = _ })) c.opened.result c.after.result c.args.text.now c.write_primary-written.new.text (ap g.D.Disk.disk (o.disk ∙ ap (λ r. disk_of r.site) c.in-Ok-new.ensures.ok))
+    (subst (λ r. IfOk c.after.result (λ ended. site_in c.opened.result.0 ≡ Some (primary_after c.args.name r ended))) c.in-Ok-new.ensures.ok o.site) o.ended
+    (on_written c.write_primary-written.result c.after.result Done _ _ c.write_primary-written.ensures c.after.ensures.written c.after.ensures.unwritten (λ t.
+    reign_starts v w (down c.args.name) (memory_of c.args.site) (memory_of c.start_reign.new.self) (nothing_in g.D.Disk.disk c.start_reign.new.self e.ready.fault c.nothing_is_left-in-Ok.ensures) c.in-Ok.stamp _ (c.sequence_length-from.result + 1) c.args.text.now _
+    (g.met.D.Disk.lawful (disk_of c.start_reign.new.self)) refl (λ told x k. (e.begun told x (record { fault = goes; inner = k })).inner) e.stamp e.remembered e.room e.simulated e.faults.later is_from (named _ _ c.as_slice.ensures t)))
+    (err_holds c.after.result _
+    (reign_cut c.leftovers_hold.ensures v w (down c.args.name) (memory_of c.args.site)
+    (record { lawful = g.met.D.Disk.lawful (disk_of c.start_reign.new.self); left = λ x k. e.left x (record { fault = goes; inner = k }); still_told = e.still_told; simulated = e.simulated; later = e.faults.later })))
 
-pub returns-in-Ok-clause-done : goal.returns-in-Ok-clause-done
-returns-in-Ok-clause-done g c =
-    let e = c.in-Ok.ensures in
-    let is_from : c.sequence_length-from.result + 1 ≡ count_of c.args.opened + 1 = ap (λ (k : ℕ). k + 1) (c.sequence_length-from.ensures ∙ ap entry_count e.entries) in
-    reign_starts (g.D.Disk.disk c.args.disk.now) (g.D.Disk.disk c.start_reign.new.disk) c.nothing_is_left-in-Ok.ensures c.args.site.now c.args.opened c.start_reign.new.self c.in-Ok.stamp _ (c.sequence_length-from.result + 1) c.args.text.now _ (g.met.D.Disk.lawful c.start_reign.new.disk) refl
-    e.begun e.stamp e.remembered e.room e.simulated e.faults.later is_from
-    (named _ _ c.as_slice.ensures c.in_ok-write_primary-in-Ok.ensures)
-
-pub returns-in-Err-ReignLimit-clause-done : goal.returns-in-Err-ReignLimit-clause-done
-returns-in-Err-ReignLimit-clause-done g c =
+pub returns-in-Err-ReignLimit-clause-left : goal.returns-in-Err-ReignLimit-clause-left
+returns-in-Err-ReignLimit-clause-left g c =
     let e = c.in-Err-ReignLimit.ensures in
+    let o = c.closed-in-Err-ReignLimit.ensures in
     let is = ap Err c.in-Err-ReignLimit.field-0-is in
-    let kept = e.kept is in
-    on_not_done c.refuse.result _ _ c.refuse.ensures (λ t.
-    subst (λ (d : g.row.D.Denot). BeginsAt (g.D.Disk.disk c.args.disk.now) c.args.opened c.args.site.now (g.D.Disk.disk d) c.args.site.now c.args.text.now c.refuse.new.text false) (sym kept.0)
-    (reign_limited (g.D.Disk.disk c.args.disk.now) c.nothing_is_left.ensures c.args.site.now c.args.opened c.args.text.now _ (g.met.D.Disk.lawful c.args.disk.now) (e.limit is)
-    (t ∙ ap (λ (n : List ℕ). c.args.text.now ++ line n (codes "REIGNLIMIT")) c.as_slice-in-Err-ReignLimit.ensures)))
+    let v = g.D.Disk.disk (disk_of c.args.site) in
+    let w = g.D.Disk.disk (disk_of c.start_reign.new.self) in
+    let goes = c.requires.ready.fault in
+    begins_by g.D.Disk.disk v w (memory_of c.args.site) c.args.name (down_after c.args.name) c.closed-in-Err-ReignLimit.result c.refuse-ended.result c.args.text.now c.refuse-ended.new.text (ap g.D.Disk.disk (o.disk ∙ c.abandon-in-Err-ReignLimit.ensures)) o.site o.ended
+    (on_not_done c.refuse-ended.result _ _ c.refuse-ended.ensures (λ t.
+    subst (λ (x : Site g.row.D.Denot). Begins v (memory_of c.args.site) (down c.args.name) (g.D.Disk.disk (disk_of x)) (down c.args.name) c.args.text.now c.refuse-ended.new.text false) (sym (e.kept is))
+    (reign_limited v (down c.args.name) (memory_of c.args.site) (nothing_in g.D.Disk.disk c.args.site goes c.nothing_is_left.ensures) c.args.text.now _ (g.met.D.Disk.lawful (disk_of c.args.site)) (e.limit is) (named _ _ c.as_slice-in-Err-ReignLimit.ensures t))))
+    (err_holds c.refuse-ended.result _
+    (reign_cut c.leftovers_hold.ensures v w (down c.args.name) (memory_of c.args.site)
+    (record { lawful = g.met.D.Disk.lawful (disk_of c.start_reign.new.self); left = λ x k. e.left x (record { fault = goes; inner = k }); still_told = e.still_told; simulated = e.simulated; later = e.faults.later })))
 
-pub returns-in-Err-ReignLimit-clause-cut_off : goal.returns-in-Err-ReignLimit-clause-cut_off
-returns-in-Err-ReignLimit-clause-cut_off g c =
-    let e = c.in-Err-ReignLimit.ensures in
-    err_holds c.refuse.result _ (reign_cut c.leftovers_hold.ensures (g.D.Disk.disk c.args.disk.now) (g.D.Disk.disk c.start_reign.new.disk) c.args.site.now c.args.opened
-    (record { lawful = g.met.D.Disk.lawful c.start_reign.new.disk; any_moment = e.any_moment; left = e.left; still_told = e.still_told; simulated = e.simulated; later = e.faults.later }))
-
-pub returns-in-Err-Failed-clause-done : goal.returns-in-Err-Failed-clause-done
-returns-in-Err-Failed-clause-done g c =
+pub returns-in-Err-Failed-clause-left : goal.returns-in-Err-Failed-clause-left
+returns-in-Err-Failed-clause-left g c =
     let e = c.in-Err-Failed.ensures in
-    let is = ap Err c.in-Err-Failed.field-0-is in
-    let s = c.args.site.now in
-    let w = g.D.Disk.disk c.start_reign.new.disk in
-    on_failed c.fail.result c.fail.new.site _ _ (λ (x : Site) (done : Bool). BeginsAt (g.D.Disk.disk c.args.disk.now) c.args.opened s w x c.args.text.now c.fail.new.text done) c.fail.ensures.failed (λ t.
-    reign_faulted c.leftovers_hold.ensures (g.D.Disk.disk c.args.disk.now) w s c.args.opened c.in-Err-Failed.fault c.args.text.now _
-    (record { lawful = g.met.D.Disk.lawful c.start_reign.new.disk; any_moment = e.any_moment; left = e.left; still_told = e.still_told; simulated = e.simulated; later = e.faults.later })
-    (e.faults.count c.in-Err-Failed.fault is) (e.faults.cause c.in-Err-Failed.fault is) t)
+    let o = c.closed-in-Err-Failed.ensures in
+    let is = ap Err c.in-Err-Failed.field-0-is ∙ ap (λ (k : ℕ). Err (error.Failed k)) (sym c.in-Err-Failed.fault-is) in
+    let v = g.D.Disk.disk (disk_of c.args.site) in
+    let w = g.D.Disk.disk (disk_of c.start_reign.new.self) in
+    let goes = c.requires.ready.fault in
+    begins_by g.D.Disk.disk v w (memory_of c.args.site) c.args.name (down_after c.args.name) c.closed-in-Err-Failed.result c.fail-ended.result c.args.text.now c.fail-ended.new.text (ap g.D.Disk.disk (o.disk ∙ c.abandon-in-Err-Failed.ensures)) o.site o.ended
+    (on_failed c.fail-ended.result _ _ _ c.fail-ended.ensures (λ t.
+    reign_faulted c.leftovers_hold.ensures v w (down c.args.name) (memory_of c.args.site) _ c.args.text.now _
+    (record { lawful = g.met.D.Disk.lawful (disk_of c.start_reign.new.self); left = λ x k. e.left x (record { fault = goes; inner = k }); still_told = e.still_told; simulated = e.simulated; later = e.faults.later })
+    (e.faults.count _ is) (e.faults.cause _ is) (named _ _ c.as_slice-in-Err-Failed.ensures t)))
+    (err_holds c.fail-ended.result _
+    (reign_cut c.leftovers_hold.ensures v w (down c.args.name) (memory_of c.args.site)
+    (record { lawful = g.met.D.Disk.lawful (disk_of c.start_reign.new.self); left = λ x k. e.left x (record { fault = goes; inner = k }); still_told = e.still_told; simulated = e.simulated; later = e.faults.later })))
 
-pub returns-in-Err-Failed-clause-cut_off : goal.returns-in-Err-Failed-clause-cut_off
-returns-in-Err-Failed-clause-cut_off g c =
-    let e = c.in-Err-Failed.ensures in
-    err_holds c.fail.result _ (reign_cut c.leftovers_hold.ensures (g.D.Disk.disk c.args.disk.now) (g.D.Disk.disk c.start_reign.new.disk) c.args.site.now c.args.opened
-    (record { lawful = g.met.D.Disk.lawful c.start_reign.new.disk; any_moment = e.any_moment; left = e.left; still_told = e.still_told; simulated = e.simulated; later = e.faults.later }))
+pub returns-in-Ok-clause-left : goal.returns-in-Ok-clause-left
+returns-in-Ok-clause-left g c =
+    let e = c.in-Ok.ensures in
+    let o = c.closed.ensures in
+    let goes = c.requires.ready.fault in
+    begins_by g.D.Disk.disk (g.D.Disk.disk (disk_of c.args.site)) (g.D.Disk.disk (disk_of c.start_reign.new.self)) (memory_of c.args.site) c.args.name (down_after c.args.name) c.closed.result (Err (record {})) c.args.text.now c.write_primary-written.new.text
+    (ap g.D.Disk.disk (o.disk ∙ c.abandon.ensures ∙ ap (λ r. disk_of r.site) c.in-Err-new.ensures.value_returned)) tt o.ended tt
+    (reign_cut c.leftovers_hold.ensures (g.D.Disk.disk (disk_of c.args.site)) (g.D.Disk.disk (disk_of c.start_reign.new.self)) (down c.args.name) (memory_of c.args.site)
+    (record { lawful = g.met.D.Disk.lawful (disk_of c.start_reign.new.self); left = λ x k. e.left x (record { fault = goes; inner = k }); still_told = e.still_told; simulated = e.simulated; later = e.faults.later }))
 
 pub returns : goal.returns
 returns g c =
     let e = c.in-Err.ensures in
+    let o = c.closed-in-Err.ensures in
+    let goes = c.requires.ready.fault in
     record {
-      ready = tt;
-      done = tt;
-      cut_off = reign_cut c.leftovers_hold.ensures (g.D.Disk.disk c.args.disk.now) (g.D.Disk.disk c.start_reign.new.disk) c.args.site.now c.args.opened
-          (record { lawful = g.met.D.Disk.lawful c.start_reign.new.disk; any_moment = e.any_moment; left = e.left; still_told = e.still_told; simulated = e.simulated; later = e.faults.later });
+      ready = ok_so c.closed-in-Err.result.1 _ o.ready;
+      left = begins_by g.D.Disk.disk (g.D.Disk.disk (disk_of c.args.site)) (g.D.Disk.disk (disk_of c.start_reign.new.self)) (memory_of c.args.site) c.args.name (down_after c.args.name) c.closed-in-Err.result (Err (record {})) c.args.text.now c.args.text.now
+          (ap g.D.Disk.disk (o.disk ∙ c.abandon-in-Err.ensures)) tt o.ended tt
+          (reign_cut c.leftovers_hold.ensures (g.D.Disk.disk (disk_of c.args.site)) (g.D.Disk.disk (disk_of c.start_reign.new.self)) (down c.args.name) (memory_of c.args.site)
+          (record { lawful = g.met.D.Disk.lawful (disk_of c.start_reign.new.self); left = λ x k. e.left x (record { fault = goes; inner = k }); still_told = e.still_told; simulated = e.simulated; later = e.faults.later }));
     }

@@ -1,18 +1,52 @@
-use Rattle.world_defs.specs.Row.{why_not_down}
+use Rattle.std.proofs.Common.{refl, ◌∙◌, ap, sym}
 use Rattle.world_defs.specs.rows.Start as rows
-use Rattle.site_runner.specs.Causes.{cause_value}
-use Rattle.site_runner.specs.Sites.{state_value}
-use Rattle.site_runner.proofs.Ats.{refuses_by, why_is, is_down}
-use Rattle.site_runner.proofs.Started.{start_not_down, start_kept, start_early}
+use Rattle.site_store.specs.Owning.{disk_of, memory_of}
+use Rattle.site_store.proofs.Refused.{drawn_site}
+use Rattle.site_runner.specs.Ending.{down}
+use Rattle.site_runner.proofs.Ats.{on_not_done, if_some}
+use Rattle.site_runner.proofs.Results.{err_holds}
+use Rattle.site_runner.proofs.Started.{load_cut, opens_held, load_other, starts_so}
+use Rattle.site_runner.proofs.Stopped.{closed_leaves}
 use Rattle.site_runner.proofs.start.start.Goals as goal
 
-pub returns-in-Some-clause-done : goal.returns-in-Some-clause-done
-returns-in-Some-clause-done g c =
-    let v = g.D.Disk.disk c.args.disk.now in
-    let s = c.args.site.now in
-    let why = why_is c.why_not_down.result c.in-Some.cause (why_not_down (state_value s.state)) c.why_not_down.ensures c.in-Some.is in
-    refuses_by (rows.start s.name) v s c.in-Some.cause c.args.text.now _ c.as_slice.result.now c.refuse.result
-    (λ p h. start_not_down v s (cause_value c.in-Some.cause) p why h) (λ p. start_kept (state_value s.state) (cause_value c.in-Some.cause) p why) (λ p. start_early (state_value s.state) (cause_value c.in-Some.cause) p why) c.as_slice.ensures c.refuse.ensures
+pub returns-then-is_named-clause-left : goal.returns-then-is_named-clause-left
+returns-then-is_named-clause-left g c =
+    let e = c.in-Ok.ensures in
+    let v = g.D.Disk.disk c.args.disk in
+    let o = memory_of c.in-Ok.site in
+    starts_so c.leftovers_hold.ensures c.files_stand_for_one.ensures g.D.Disk.disk c.args.disk c.args.name (g.D.Disk.disk (disk_of c.in-Ok.site)) o c.begin.result c.args.text.now c.begin.new.text (g.met.D.Disk.lawful c.args.disk)
+    (sym e.ready.files.layout.name ∙ c.if-is_named.ensures ∙ c.as_slice.ensures) e.read (if_some v.content _ _ (λ f k x left a b d. (k x left a b d).inner) e.told) (drawn_site v.content e.drawn)
+    (opens_held v o (if_some v.content _ _ (λ f k. (k.0, k.1, k.2, k.3, (k.4, k.5))) e.held) e.drawn) e.simulated e.faults.later c.begin.ensures.left
 
-pub open-requires : goal.open-requires
-open-requires g c = is_down c.args.site.now.state c.why_not_down.result c.why_not_down.ensures c.in_default.is
+pub returns-else-is_named-clause-left : goal.returns-else-is_named-clause-left
+returns-else-is_named-clause-left g c =
+    let e = c.in-Ok.ensures in
+    let k = c.closed.ensures in
+    let n = c.as_slice-else-is_named.result.now in
+    let v = g.D.Disk.disk c.args.disk in
+    let w = g.D.Disk.disk (disk_of c.in-Ok.site) in
+    let o = memory_of c.in-Ok.site in
+    closed_leaves g.D.Disk.disk rows.start c.args.disk c.args.name n w c.closed.result c.damaged-ended.result c.args.text.now c.damaged-ended.new.text c.as_slice-else-is_named.ensures (ap g.D.Disk.disk (k.disk ∙ c.abandon.ensures)) k.site k.ended
+    (on_not_done c.damaged-ended.result _ _ c.damaged-ended.ensures (λ t.
+    load_other v w (down n) o c.args.text.now _ refl (λ same. c.if-is_named.ensures (e.ready.files.layout.name ∙ same ∙ c.as_slice-else-is_named.ensures ∙ sym c.as_slice.ensures)) (if_some v.content _ _ (λ f k x left a b d. (k x left a b d).inner) e.told)
+    (opens_held v o (if_some v.content _ _ (λ f k. (k.0, k.1, k.2, k.3, (k.4, k.5))) e.held) e.drawn) e.simulated e.faults.later t))
+    (err_holds c.damaged-ended.result _ (load_cut c.leftovers_hold.ensures v w (down n) (g.met.D.Disk.lawful (disk_of c.in-Ok.site)) refl e.any_moment e.left e.still_told e.simulated e.faults.later))
+
+pub returns-in-Err-clause-left : goal.returns-in-Err-clause-left
+returns-in-Err-clause-left g c =
+    let e = c.in-Err.ensures in
+    c.unopened.ensures.left c.args.disk (record {
+      limit = e.limit;
+      limit_told = e.limit_told;
+      unwritten = λ is. (e.unwritten is, e.untouched is);
+      needs = e.needs;
+      needs_unwritten = e.needs_unwritten;
+      place = e.place;
+      outside = e.outside;
+      refused = e.refused;
+      any_moment = e.any_moment;
+      left = e.left;
+      still_told = e.still_told;
+      simulated = e.simulated;
+      faults = e.faults;
+    })

@@ -1,18 +1,27 @@
-use Rattle.std.proofs.Common.{◌∙◌, ap}
+use Rattle.std.proofs.Common.{refl, subst}
+use Rattle.world_defs.specs.Meaning.{row_at}
+use Rattle.repl_section.specs.declared.reign.Reign as code
+use Rattle.site_runner.specs.Executes.{Leaves}
 use Rattle.std.specs.Option.{option_copied}
-use Rattle.world_defs.specs.Row.{refused_with, why_not_open}
 use Rattle.world_defs.specs.rows.Zwrite as rows
-use Rattle.site_runner.specs.Sites.{state_value}
-use Rattle.site_runner.proofs.Ats.{kept_same, state_at, refuses_by, why_is}
-use Rattle.site_runner.proofs.Stopped.{zwrites_at}
+use Rattle.site_store.specs.Owning.{disk_of}
+use Rattle.site_runner.specs.declared.slot.Slot.TheVariants as slots
+use Rattle.site_runner.specs.declared.ending.Ended.TheVariants as ends
+use Rattle.site_runner.specs.Ending.{primary}
+use Rattle.site_runner.specs.Sites.{reign_in}
+use Rattle.site_runner.proofs.Results.{on_ok, err_holds}
+use Rattle.site_runner.proofs.Stopped.{zwrites_at, cut_same}
+use Rattle.site_runner.proofs.Endings.{written_leaves}
 use Rattle.site_runner.proofs.zwriting.zwrite.Goals as goal
 
-pub returns-in-Some : goal.returns-in-Some
-returns-in-Some g c =
-    let v = g.D.Disk.disk c.args.disk.now in
-    let s = c.args.site.now in
-    refuses_by (rows.zwrite (option_copied c.args.top) s.name) v s c.in-Some.cause c.args.text.now _ c.as_slice.result.now c.refuse.result
-    (λ p h. ap (refused_with s.name) (state_at why_not_open v s p h ∙ why_is c.why_not_open.result c.in-Some.cause (why_not_open (state_value s.state)) c.why_not_open.ensures c.in-Some.is)) kept_same (λ p. tt) c.as_slice.ensures c.refuse.ensures
-
-pub returns : goal.returns
-returns g c = zwrites_at (g.D.Disk.disk c.args.disk.now) c.args.site.now c.in-Primary.reign (option_copied c.args.top) c.args.text.now _ c.in-Primary.is c.in_ok-zwrite.ensures.lines
+pub returns-clause-left : goal.returns-clause-left
+returns-clause-left g c =
+    let view = g.D.Disk.disk in
+    let r = c.deref.result.now in
+    let at = λ (o : code.Reign g.row.D.Denot). slots.Open (record c.args.reign { value = o }) c.args.name in
+    let s = primary c.args.name r in
+    let v = view (disk_of r.site) in
+    let top = option_copied c.args.top in
+    subst (λ (o : code.Reign g.row.D.Denot). Leaves view (row_at (rows.zwrite top)) (at o) (at o, c.after.result) c.args.text.now c.zwrite-written.new.out) c.deref.ensures
+    (written_leaves view (rows.zwrite top) (at r) (at r) s s v c.zwrite-written.result c.after.result ends.Done c.args.text.now _ refl refl refl c.after.ensures.written c.after.ensures.unwritten
+    (on_ok c.zwrite-written.result _ _ c.zwrite-written.ensures.lines (zwrites_at v s (reign_in r) top c.args.text.now _ refl)) (err_holds c.zwrite-written.result _ (cut_same (rows.zwrite top c.args.name) v s)))

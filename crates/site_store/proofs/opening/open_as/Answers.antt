@@ -9,7 +9,7 @@ use Rattle.site_store.specs.Standing.{StandsIn}
 use Rattle.site_store.proofs.Errors.{file_was}
 use Rattle.site_store.proofs.Refused.{told_anyway, untold}
 use Rattle.site_store.proofs.Loaded.{quiet_told, quiet_left, quiet_stands}
-use Rattle.site_store.specs.declared.site.OpenSite.{OpenSite}
+use Rattle.site_store.specs.declared.memory.Memory.{Memory}
 use Rattle.site_store.proofs.Stood as stood
 use Rattle.site_store.proofs.opening.open_as.Goals as goal
 use Rattle.entry_index.specs.Found.{entry_count}
@@ -191,7 +191,7 @@ returns-clause-read g c =
     let lawful_v = g.met.D.Disk.lawful c.read_standing.new.disk in
     let lawful_w = g.met.D.Disk.lawful c.draw.new.disk in
     let n : c.len-length.result ≡ entry_count k.entries = c.len-length.ensures.count in
-    let s : OpenSite = record { instance = c.in_ok-drawn.drawn.instance; layout = k.layout; journals = c.in_ok-newest_journals.field-0; entries = k.entries; globals = k.globals; hardened = c.len-length.result; stamp = None } in
+    let s : Memory = record { instance = c.in_ok-drawn.drawn.instance; layout = k.layout; journals = c.in_ok-newest_journals.field-0; entries = k.entries; globals = k.globals; hardened = c.len-length.result; stamp = None } in
     stood.read_some c.args.anew u v w k st lawful_v lawful_w c.read_standing.ensures.any_moment c.read_standing.ensures.content c.len-length.result c.as_slice-text.result.now c.deref.result.now n c.as_slice-text.ensures c.deref.ensures.value s c.in_ok-drawn.ensures.records refl refl refl refl
 
 pub returns-clause-found : goal.returns-clause-found
@@ -204,7 +204,7 @@ returns-clause-found g c =
     let lawful_v = g.met.D.Disk.lawful c.read_standing.new.disk in
     let lawful_w = g.met.D.Disk.lawful c.draw.new.disk in
     let n : c.len-length.result ≡ entry_count k.entries = c.len-length.ensures.count in
-    let s : OpenSite = record { instance = c.in_ok-drawn.drawn.instance; layout = k.layout; journals = c.in_ok-newest_journals.field-0; entries = k.entries; globals = k.globals; hardened = c.len-length.result; stamp = None } in
+    let s : Memory = record { instance = c.in_ok-drawn.drawn.instance; layout = k.layout; journals = c.in_ok-newest_journals.field-0; entries = k.entries; globals = k.globals; hardened = c.len-length.result; stamp = None } in
     stood.found c.args.anew u v w k st lawful_v lawful_w c.read_standing.ensures.any_moment c.read_standing.ensures.content c.len-length.result c.as_slice-text.result.now c.deref.result.now n c.as_slice-text.ensures c.deref.ensures.value s c.in_ok-drawn.ensures.records refl refl refl refl
 
 pub returns-clause-held : goal.returns-clause-held
@@ -217,7 +217,7 @@ returns-clause-held g c =
     let lawful_v = g.met.D.Disk.lawful c.read_standing.new.disk in
     let lawful_w = g.met.D.Disk.lawful c.draw.new.disk in
     let n : c.len-length.result ≡ entry_count k.entries = c.len-length.ensures.count in
-    let s : OpenSite = record { instance = c.in_ok-drawn.drawn.instance; layout = k.layout; journals = c.in_ok-newest_journals.field-0; entries = k.entries; globals = k.globals; hardened = c.len-length.result; stamp = None } in
+    let s : Memory = record { instance = c.in_ok-drawn.drawn.instance; layout = k.layout; journals = c.in_ok-newest_journals.field-0; entries = k.entries; globals = k.globals; hardened = c.len-length.result; stamp = None } in
     stood.held c.args.anew u v w k st lawful_v lawful_w c.read_standing.ensures.any_moment c.read_standing.ensures.content c.len-length.result c.as_slice-text.result.now c.deref.result.now n c.as_slice-text.ensures c.deref.ensures.value s c.in_ok-drawn.ensures.records refl refl refl refl
 
 pub returns-clause-opened : goal.returns-clause-opened
@@ -230,7 +230,7 @@ returns-clause-opened g c =
     let lawful_v = g.met.D.Disk.lawful c.read_standing.new.disk in
     let lawful_w = g.met.D.Disk.lawful c.draw.new.disk in
     let n : c.len-length.result ≡ entry_count k.entries = c.len-length.ensures.count in
-    let s : OpenSite = record { instance = c.in_ok-drawn.drawn.instance; layout = k.layout; journals = c.in_ok-newest_journals.field-0; entries = k.entries; globals = k.globals; hardened = c.len-length.result; stamp = None } in
+    let s : Memory = record { instance = c.in_ok-drawn.drawn.instance; layout = k.layout; journals = c.in_ok-newest_journals.field-0; entries = k.entries; globals = k.globals; hardened = c.len-length.result; stamp = None } in
     stood.opened_here c.args.anew u v w k st lawful_v lawful_w c.read_standing.ensures.any_moment c.read_standing.ensures.content c.len-length.result c.as_slice-text.result.now c.deref.result.now n c.as_slice-text.ensures c.deref.ensures.value s c.in_ok-drawn.ensures.records refl refl refl refl
 
 pub returns-clause-ready : goal.returns-clause-ready
@@ -243,7 +243,7 @@ returns-clause-ready g c =
     let lawful_v = g.met.D.Disk.lawful c.read_standing.new.disk in
     let lawful_w = g.met.D.Disk.lawful c.draw.new.disk in
     let n : c.len-length.result ≡ entry_count k.entries = c.len-length.ensures.count in
-    let s : OpenSite = record { instance = c.in_ok-drawn.drawn.instance; layout = k.layout; journals = c.in_ok-newest_journals.field-0; entries = k.entries; globals = k.globals; hardened = c.len-length.result; stamp = None } in
+    let s : Memory = record { instance = c.in_ok-drawn.drawn.instance; layout = k.layout; journals = c.in_ok-newest_journals.field-0; entries = k.entries; globals = k.globals; hardened = c.len-length.result; stamp = None } in
     stood.ready c.args.anew u v w k st lawful_v lawful_w c.read_standing.ensures.any_moment c.read_standing.ensures.content c.len-length.result c.as_slice-text.result.now c.deref.result.now n c.as_slice-text.ensures c.deref.ensures.value s c.in_ok-drawn.ensures.records refl refl refl refl c.in_ok-drawn.drawn.journals.items c.in_ok-newest_journals.ensures c.in_ok-drawn.ensures.journal_count c.in_ok-drawn.ensures.instance refl c.in_ok-drawn.ensures.journals c.draw.ensures.frame
 
 pub returns-clause-told : goal.returns-clause-told
@@ -256,5 +256,5 @@ returns-clause-told g c =
     let lawful_v = g.met.D.Disk.lawful c.read_standing.new.disk in
     let lawful_w = g.met.D.Disk.lawful c.draw.new.disk in
     let n : c.len-length.result ≡ entry_count k.entries = c.len-length.ensures.count in
-    let s : OpenSite = record { instance = c.in_ok-drawn.drawn.instance; layout = k.layout; journals = c.in_ok-newest_journals.field-0; entries = k.entries; globals = k.globals; hardened = c.len-length.result; stamp = None } in
+    let s : Memory = record { instance = c.in_ok-drawn.drawn.instance; layout = k.layout; journals = c.in_ok-newest_journals.field-0; entries = k.entries; globals = k.globals; hardened = c.len-length.result; stamp = None } in
     stood.told c.args.anew u v w k st lawful_v lawful_w c.read_standing.ensures.any_moment c.read_standing.ensures.content c.len-length.result c.as_slice-text.result.now c.deref.result.now n c.as_slice-text.ensures c.deref.ensures.value s c.in_ok-drawn.ensures.records refl refl refl refl c.in_ok-drawn.drawn.journals.items c.in_ok-newest_journals.ensures c.in_ok-drawn.ensures.drawn c.in_ok-drawn.ensures.instance_file c.in_ok-drawn.ensures.journal_files

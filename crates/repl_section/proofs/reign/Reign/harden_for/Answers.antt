@@ -8,11 +8,12 @@ use Rattle.repl_disk.proofs.Tables.{on_err}
 use Rattle.repl_section.proofs.Results.{on_ok}
 use Rattle.repl_section.proofs.Settled.{not_both}
 use Rattle.repl_section.proofs.reign.Reign.harden_for.Goals as goal
+use Rattle.site_store.specs.Owning.{disk_of, memory_of}
 
 pub returns-in-Some-clause-done : goal.returns-in-Some-clause-done
 returns-in-Some-clause-done g c =
     on_ok c.harden.result _ _ c.harden.ensures.done (λ f told x h r.
-    subst (λ (o : Option ℕ). IsOpen (g.D.Disk.disk c.harden.new.disk) told x (hardened_for o x h) c.harden.new.self.site) (sym c.in-Some.is ∙ c.entry.ensures) (f told x h r))
+    subst (λ (o : Option ℕ). IsOpen (g.D.Disk.disk (disk_of c.harden.new.self.site)) told x (hardened_for o x h) (memory_of c.harden.new.self.site)) (sym c.in-Some.is ∙ c.entry.ensures) (f told x h r))
 
 pub returns-in-Some-clause-hardened : goal.returns-in-Some-clause-hardened
 returns-in-Some-clause-hardened g c =
@@ -24,10 +25,10 @@ returns-in-Some-clause-waited g c = on_err c.harden.result (subst IsSome (sym c.
 
 pub returns-in-None-clause-done : goal.returns-in-None-clause-done
 returns-in-None-clause-done g c told x h r =
-    subst (λ (o : Option ℕ). IsOpen (g.D.Disk.disk c.args.disk.now) told x (hardened_for o x h) c.args.self.now.site) (sym c.in-None.is ∙ c.entry.ensures) r
+    subst (λ (o : Option ℕ). IsOpen (g.D.Disk.disk (disk_of c.args.self.now.site)) told x (hardened_for o x h) (memory_of c.args.self.now.site)) (sym c.in-None.is ∙ c.entry.ensures) r
 
 pub returns-in-None-clause-hardened : goal.returns-in-None-clause-hardened
-returns-in-None-clause-hardened g c = subst (λ (o : Option ℕ). IfSome o (λ number. number ≤ c.args.self.now.site.hardened)) (sym c.in-None.is ∙ c.entry.ensures) _
+returns-in-None-clause-hardened g c = subst (λ (o : Option ℕ). IfSome o (λ number. number ≤ (memory_of c.args.self.now.site).hardened)) (sym c.in-None.is ∙ c.entry.ensures) _
 
 pub returns-in-None-clause-images : goal.returns-in-None-clause-images
 returns-in-None-clause-images g c some = absurd (not_both (named c.args.decision.now.reply) some (sym c.entry.ensures ∙ c.in-None.is))

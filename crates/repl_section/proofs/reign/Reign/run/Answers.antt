@@ -10,6 +10,7 @@ use Rattle.repl_section.specs.Reigns.{Reigns, stamp_of}
 use Rattle.repl_section.specs.Deciding.{MayHave, LeavesPick, HasReached, FailsAt, FailsIn}
 use Rattle.repl_section.proofs.Turns.{HasGone, come_to, pick_at, none_decided, one_decided, failed_at, failed_in, left_at}
 use Rattle.repl_section.proofs.reign.Reign.run.Goals as goal
+use Rattle.site_store.specs.Owning.{disk_of}
 
 pub loop-updater-preserved-in_default : goal.loop-updater-preserved-in_default
 loop-updater-preserved-in_default g c =
@@ -17,7 +18,7 @@ loop-updater-preserved-in_default g c =
     let jobs = g.J.JobSource.jobs c.args.jobs.now in
     let left = g.J.JobSource.jobs at.jobs in
     let gave = g.S.ReplySink.gave c.args.sink.now at.sink in
-    let v = g.D.Disk.disk at.disk in
+    let v = g.D.Disk.disk (disk_of at.self.site) in
     let stamp = stamp_of c.args.self.now in
     let u = get_or c.args.order.now at.updater-index 0 in
     let none : next_job u left ≡ None = sym (rw c.in_default.is at c.take_next.ensures.job) in
@@ -40,8 +41,8 @@ returns-in-Err-Failed-clause-breaks g c told x r =
     let jobs = g.J.JobSource.jobs c.args.jobs.now in
     let left = g.J.JobSource.jobs at.jobs in
     let gave = g.S.ReplySink.gave c.args.sink.now at.sink in
-    let v = g.D.Disk.disk at.disk in
-    let w = g.D.Disk.disk c.settle.new.disk in
+    let v = g.D.Disk.disk (disk_of at.self.site) in
+    let w = g.D.Disk.disk (disk_of c.settle.new.self.site) in
     let stamp = stamp_of c.args.self.now in
     let order = c.args.order.now in
     let serials = c.args.self.now.serials in
@@ -66,8 +67,8 @@ returns-in-Err-Failed-clause-withholds_none g c told x r =
     let jobs = g.J.JobSource.jobs c.args.jobs.now in
     let left = g.J.JobSource.jobs at.jobs in
     let gave = g.S.ReplySink.gave c.args.sink.now at.sink in
-    let v = g.D.Disk.disk at.disk in
-    let w = g.D.Disk.disk c.settle.new.disk in
+    let v = g.D.Disk.disk (disk_of at.self.site) in
+    let w = g.D.Disk.disk (disk_of c.settle.new.self.site) in
     let stamp = stamp_of c.args.self.now in
     let order = c.args.order.now in
     let serials = c.args.self.now.serials in
@@ -92,8 +93,8 @@ returns-in-Err-NoMemory-clause-breaks g c told x r =
     let jobs = g.J.JobSource.jobs c.args.jobs.now in
     let left = g.J.JobSource.jobs at.jobs in
     let gave = g.S.ReplySink.gave c.args.sink.now at.sink in
-    let v = g.D.Disk.disk at.disk in
-    let w = g.D.Disk.disk c.settle.new.disk in
+    let v = g.D.Disk.disk (disk_of at.self.site) in
+    let w = g.D.Disk.disk (disk_of c.settle.new.self.site) in
     let stamp = stamp_of c.args.self.now in
     let order = c.args.order.now in
     let serials = c.args.self.now.serials in
@@ -115,8 +116,8 @@ loop-updater-preserved g c =
     let jobs = g.J.JobSource.jobs c.args.jobs.now in
     let left = g.J.JobSource.jobs at.jobs in
     let gave = g.S.ReplySink.gave c.args.sink.now at.sink in
-    let v = g.D.Disk.disk at.disk in
-    let w = g.D.Disk.disk c.settle.new.disk in
+    let v = g.D.Disk.disk (disk_of at.self.site) in
+    let w = g.D.Disk.disk (disk_of c.settle.new.self.site) in
     let stamp = stamp_of c.args.self.now in
     let order = c.args.order.now in
     let serials = c.args.self.now.serials in
@@ -148,7 +149,7 @@ returns-clause-done g c told x r =
     let stamp = stamp_of c.args.self.now in
     let order = c.args.order.now in
     let end : at.updater-index ≡ length order = omega (arith, c.loop-updater-test.false, at.auto.updater-index-end) in
-    subst (λ (picks : List ℕ). HasReached (g.D.Disk.disk at.disk) told x (turn_of stamp c.args.self.now.serials (g.J.JobSource.jobs c.args.jobs.now) picks x.sequence) at.self (g.S.ReplySink.gave c.args.sink.now at.sink))
+    subst (λ (picks : List ℕ). HasReached (g.D.Disk.disk (disk_of at.self.site)) told x (turn_of stamp c.args.self.now.serials (g.J.JobSource.jobs c.args.jobs.now) picks x.sequence) at.self (g.S.ReplySink.gave c.args.sink.now at.sink))
     (ap (λ (n : ℕ). take n order) end ∙ take-length order) (at.invariant.gone told x r).reached
 
 pub returns-clause-left : goal.returns-clause-left

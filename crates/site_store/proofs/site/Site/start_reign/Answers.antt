@@ -1,0 +1,63 @@
+use Rattle.std.proofs.Common.{◌≡◌, ◌++◌, ◌∷◌, [], List, Err, ap, sym, ◌∙◌, subst}
+use Rattle.std.proofs.lemmas.Result.{err_from_is_err_and}
+use Rattle.global_defs.specs.Entry.{Reign}
+use Rattle.gvn_model.specs.Reigns.{reign_value}
+use Rattle.journal_defs.specs.Surviving.{reigns}
+use Rattle.journal_laws.proofs.Runs as runs
+use Rattle.mupip_recover.specs.Stamps.{AreStarts}
+use Rattle.entry_index.specs.Found.{entry_count}
+use Rattle.site_store.specs.declared.error.SiteError.TheVariants as error
+use Rattle.site_store.specs.Owning.{IsGoing, IsOpenSite}
+use Rattle.site_store.proofs.Begun as reigning
+use Rattle.site_store.proofs.site.Site.start_reign.Goals as goal
+
+pub returns-in_err-reign-clause-limit : goal.returns-in_err-reign-clause-limit
+returns-in_err-reign-clause-limit g c =
+    let p = err_from_is_err_and c.from_residual.result c.from_residual.ensures.1 in
+    rw (p.1, p.2) (λ is x h m. reigning.limit_reached x h c.args.self.now.inner m (c.requires.opened c.in_default.is).no_reign_past (c.in_err-reign.ensures.limit (let same : c.in_err-reign.field-0.0 ≡ error.ReignLimit = cc is in ap Err same)))
+
+pub returns-in_err-reign-clause-any_moment : goal.returns-in_err-reign-clause-any_moment
+returns-in_err-reign-clause-any_moment g c x o = reigning.quiet _ x _ o.inner
+
+pub returns-in_err-reign-clause-left : goal.returns-in_err-reign-clause-left
+returns-in_err-reign-clause-left g c x o = reigning.quiet_left _ x _ o.inner
+
+pub returns-in-Ok-clause-ready : goal.returns-in-Ok-clause-ready
+returns-in-Ok-clause-ready g c =
+    let was = (c.requires.ready c.in_default.is).history in
+    let r = reign_value c.in_ok-reign.field-0.reign in
+    let more = c.in_ok-reign.ensures.reigns ∙ ap (λ (l : List Reign). l ++ r ∷ []) was.surviving ∙ sym (runs.reigns-more c.args.self.now.inner.instance.records r) ∙ sym (ap reigns c.in-Ok.ensures.records) in
+    record {
+      fault = c.in_default.is;
+      files = c.in-Ok.ensures.ready;
+      history = record {
+        count = was.count ∙ ap entry_count (sym c.begin_reign.ensures.entries);
+        surviving = more;
+      };
+      starts = subst (λ (l : List Reign). AreStarts l c.in_ok-reign.field-0.starts.items) more c.in_ok-reign.ensures.starts;
+    }
+
+pub returns-in-Ok-clause-begun : goal.returns-in-Ok-clause-begun
+returns-in-Ok-clause-begun g c told x is = record { fault = is.fault; inner = c.in-Ok.ensures.begun told x is.inner }
+
+pub returns-in-Ok-clause-room : goal.returns-in-Ok-clause-room
+returns-in-Ok-clause-room g c x h m = reigning.limit_open x h c.args.self.now.inner m (c.requires.opened c.in_default.is).no_reign_past c.in_ok-reign.ensures.room
+
+pub returns-clause-goes_on : goal.returns-clause-goes_on
+returns-clause-goes_on g c is =
+    let none : c.in-Err.error ≡ error.NoMemory = cc is in
+    let was = (c.requires.ready c.in_default.is).history in
+    subst (IsGoing g.D.Disk.disk) (sym (c.note.ensures.goes_on (λ fault e. absurd (cc (e, none))))) (record {
+      fault = c.in_default.is;
+      files = c.in-Err.ensures.goes_on (ap Err none);
+      history = record {
+        count = was.count ∙ ap entry_count (sym c.begin_reign.ensures.entries);
+        surviving = was.surviving ∙ sym (ap reigns c.in-Err.ensures.kept);
+      };
+      starts = subst (λ (l : List Reign). AreStarts l c.args.self.now.starts.items) (sym (ap reigns c.in-Err.ensures.kept)) (c.requires.ready c.in_default.is).starts;
+    })
+
+pub returns-clause-stays_open : goal.returns-clause-stays_open
+returns-clause-stays_open g c is told x h was =
+    let none : c.in-Err.error ≡ error.NoMemory = cc is in
+    subst (λ s. IsOpenSite g.D.Disk.disk told x h s) (sym (c.note.ensures.goes_on (λ fault e. absurd (cc (e, none))))) (record { fault = was.fault; inner = c.in-Err.ensures.stays_open (ap Err none) told x h was.inner })
