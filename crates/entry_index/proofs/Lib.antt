@@ -6,7 +6,7 @@ pub mod Stands
 mod Cuts
 mod Indexing
 mod Thinning
-mod Either
+pub mod Either
 mod Forgetting
 mod Readers
 mod Cursors

@@ -1,5 +1,6 @@
 // Lists of reigns, and histories.
-ghost use Rattle.std.specs.Prelude.{◌≡◌, ◌==◌, ◌<◌, [], ◌∷◌, ◌++◌, length, map, Some, slice_get, IfOk, OnOk, OnErr};
+ghost use Rattle.std.specs.Prelude.{◌≡◌, ◌==◌, ◌<◌, [], ◌∷◌, ◌++◌, List, length, map, filter, nat_le, Some, slice_get, IfOk, OnOk, OnErr};
+ghost use Rattle.global_defs.specs.Entry as defs;
 ghost use Rattle.gvn_model.specs.Reigns.{reign_value};
 
 use super::reign::Reign;
@@ -72,6 +73,21 @@ impl Reigns {
         Ok(())
     }
 
+    /// Takes the last reign away.
+    pub fn drop_last(&mut self)
+        requires { 0 < length self.old }
+        ensures { (rs : List defs.Reign) (r : defs.Reign) → self.old ≡ rs ++ r ∷ [] → self.new ≡ rs }
+    {
+        self.items.pop();
+    }
+
+    /// Those of the reigns that begin by the entry of that number.
+    pub fn begun_by(&self, number: u64) -> Result<Self, NoMemory>
+        ensures { IfOk result (λ made. made ≡ filter (λ r. nat_le r.start number) self.now) }
+    {
+        begun_in(*self.items.allocator(), &self.items, number)
+    }
+
     /// An equal list.
     pub fn copy(&self) -> Result<Self, NoMemory>
         ensures { IfOk result (λ made. made ≡ self.now) }
@@ -88,6 +104,18 @@ fn copy_all(alloc: Global, reigns: &[Reign]) -> Result<Vec<Reign>, NoMemory>
     let mut made = Vec::new(alloc);
     for reign in reigns {
         made.push(reign.copy()?)?;
+    }
+    Ok(made)
+}
+
+fn begun_in(alloc: Global, reigns: &[Reign], number: u64) -> Result<Reigns, NoMemory>
+    ensures { IfOk result (λ made. made ≡ filter (λ r. nat_le r.start number) (map reign_value reigns.now)) }
+{
+    let mut made = Reigns::new(alloc);
+    for reign in reigns {
+        if reign.start <= number {
+            made.push(reign.copy()?)?;
+        }
     }
     Ok(made)
 }

@@ -36,7 +36,7 @@ fn two_reigns(rt: &impl Abort, alloc: Global) -> History
 #[test]
 fn copies_a_history(rt: HostRuntime) {
     let history = two_reigns(&rt, rt.alloc());
-    let made = history.copy().expect(&rt, "memory");
+    let mut made = history.copy().expect(&rt, "memory");
     holds(&rt, made.length == 9, b"the length");
     holds(&rt, made.reigns.len() == 2, b"two reigns");
     holds(&rt, !made.reigns.is_empty(), b"some reigns");
@@ -47,6 +47,14 @@ fn copies_a_history(rt: HostRuntime) {
     );
     let reign = history.reigns.item(1);
     holds(&rt, reign.stamp.cycle == 2, b"the cycle");
+    let begun = history.reigns.begun_by(6).expect(&rt, "memory");
+    holds(&rt, begun.len() == 1, b"one reign that began by entry 6");
+    made.reigns.drop_last();
+    holds(
+        &rt,
+        matches!(made.reigns.as_slice(), [first] if first.start == 1),
+        b"the first reign alone",
+    );
 }
 
 fn key(rt: &impl Abort, alloc: Global, text: &[u8]) -> Key {

@@ -1,11 +1,8 @@
 -- Reigns that survive, and their starts.
-use Rattle.std.proofs.Common.{◌≡◌, ℕ, ◌+◌, ◌<◌, ◌&&◌, Bool, true, false, List, [], ◌∷◌, ◌++◌, length, filter, if◌then◌else◌, Option, Some, None, refl, sym, ◌∙◌, ap}
+use Rattle.std.proofs.Common.{◌≡◌, ℕ, ◌<◌, ◌&&◌, Bool, true, false, List, [], ◌∷◌, ◌++◌, filter, if◌then◌else◌, Option, Some, None, refl, sym, ◌∙◌, ap}
 use Rattle.std.proofs.lemmas.List.Folds.{list_all-append}
 use Rattle.std.proofs.lemmas.List.Elements.{filter-append}
 use Rattle.std.specs.List.{list_all}
-use Rattle.std.specs.Prelude.{map, take, get_or, nat_le}
-use Rattle.std.proofs.lemmas.List.{map-append, take_more}
-use Rattle.gvn_model.specs.Reigns.{reign_value}
 use Rattle.gvn_model.specs.declared.reign.Reign as code
 use Rattle.global_defs.specs.Entry.{Reign}
 use Rattle.journal_defs.specs.Instance.{InstanceRecord, Create, Reigned, Cut, Map, Mode}
@@ -105,14 +102,6 @@ rise_past low (q ∷ rs) r rise = rise_past q.start rs r rise.1
 pub rise_front : (low : ℕ) (rs more : List Reign) → StartsRise low (rs ++ more) → StartsRise low rs
 rise_front low [] more rise = tt
 rise_front low (r ∷ rs) more rise = (rise.0, rise_front r.start rs more rise.1)
-
--- the starts of the reigns of the code, from a place on
-pub kept_more : (n : ℕ) (xs : List code.Reign) (i : ℕ) (x : code.Reign) → i < length xs → x ≡ get_or xs i x
-    → filter (λ r. nat_le r.start n) (map reign_value (take (i + 1) xs)) ≡ filter (λ r. nat_le r.start n) (map reign_value (take i xs)) ++ (if nat_le x.start n then reign_value x ∷ [] else [])
-kept_more n xs i x inside is =
-    ap (λ (l : List code.Reign). filter (λ r. nat_le r.start n) (map reign_value l)) (take_more xs i x inside ∙ ap (λ (y : code.Reign). take i xs ++ y ∷ []) (sym is))
-    ∙ ap (filter (λ r. nat_le r.start n)) (map-append reign_value (take i xs) (x ∷ []))
-    ∙ filter-append (λ r. nat_le r.start n) (map reign_value (take i xs)) (reign_value x ∷ [])
 
 -- a record that is no reign and no cut
 pub reigns_other : (rs : List InstanceRecord) (x : stored.InstanceRecord) → ((r : code.Reign) → x ≡ variant.Reign r → ⊥) → ((n g : ℕ) → x ≡ variant.Cut n g → ⊥) → reigns (rs ++ record_value x ∷ []) ≡ reigns rs

@@ -1,5 +1,5 @@
 //! What one more record makes of those before it.
-ghost use Rattle.std.specs.Prelude.{◌≡◌, ◌<◌, ◌↔◌, ◌++◌, ◌∷◌, [], filter, map, nat_le, List, IsTrue, IfOk};
+ghost use Rattle.std.specs.Prelude.{◌≡◌, ◌<◌, ◌↔◌, ◌++◌, ◌∷◌, [], map, List, IsTrue, IfOk};
 ghost use Rattle.gvn_model.specs.Reigns.{reign_value};
 ghost use Rattle.journal_defs.specs.Instance as defs;
 ghost use Rattle.journal_defs.specs.Surviving as surviving;
@@ -10,7 +10,6 @@ ghost use Rattle.instance_file.specs.Order.{MayStand, last_after};
 use super::record::InstanceRecord;
 use gvn_key::NoMemory;
 use gvn_model::{Reign, Reigns};
-use std::alloc::Global;
 
 /// Whether a record may be the first, or a later one behind a last CUT of this generation.
 pub fn may_stand(added: &InstanceRecord, is_first: bool, last: u32) -> bool
@@ -33,35 +32,18 @@ pub fn generation_after(last: u32, added: &InstanceRecord) -> u32
     }
 }
 
-/// Those of the reigns that begin at an entry up to this number.
-fn begun_by(alloc: Global, reigns: &[Reign], number: u64) -> Result<Reigns, NoMemory>
-    ensures { IfOk result (λ made. made ≡ filter (λ r. nat_le r.start number) (map reign_value reigns.now)) }
-{
-    let mut made = Reigns::new(alloc);
-    for reign in reigns {
-        if reign.start <= number {
-            made.push(reign.copy()?)?;
-        }
-    }
-    Ok(made)
-}
-
 /// The surviving reigns behind one more record.
-pub fn reigns_after(
-    alloc: Global,
-    before: Reigns,
-    added: &InstanceRecord,
-) -> Result<Reigns, NoMemory>
-    ensures { IfOk result (λ made. (rs : List defs.InstanceRecord) → before ≡ surviving.reigns rs → made ≡ surviving.reigns (rs ++ record_value added.now ∷ [])) }
+pub fn reigns_after(before: &Reigns, added: &InstanceRecord) -> Result<Reigns, NoMemory>
+    ensures { IfOk result (λ made. (rs : List defs.InstanceRecord) → before.now ≡ surviving.reigns rs → made ≡ surviving.reigns (rs ++ record_value added.now ∷ [])) }
 {
     match added {
         InstanceRecord::Reign(reign) => {
-            let mut reigns = before;
+            let mut reigns = before.copy()?;
             reigns.push(reign.copy()?)?;
             Ok(reigns)
         }
-        InstanceRecord::Cut { length, .. } => begun_by(alloc, before.as_slice(), *length),
-        _ => Ok(before),
+        InstanceRecord::Cut { length, .. } => before.begun_by(*length),
+        _ => before.copy(),
     }
 }
 

@@ -104,7 +104,7 @@ impl Instance {
         ensures outside { (offset : ℕ) → IsErrOf result (InstanceError.NotARecord offset) → ⊥ }
     {
         let body = encode(self.gated.alloc, &added)?;
-        let history = reigns_after(self.gated.alloc, self.history.copy()?, &added)?;
+        let history = reigns_after(&self.history, &added)?;
         self.gated.reserve(disk, 1, body.len() as u64)?;
         self.records.push(added)?;
         if let Err(error) = put(&mut self.gated, disk, body.as_slice()) {

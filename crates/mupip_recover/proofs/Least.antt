@@ -1,5 +1,6 @@
 -- The least of what is still to come.
-use Rattle.std.proofs.Common.{◌≡◌, ℕ, zero, suc, ◌≤◌, ◌<◌, nat_le, true, false, List, [], ◌∷◌, length, get_or, refl, ap, arith}
+use Rattle.std.proofs.Common.{◌≡◌, ℕ, zero, suc, ◌≤◌, ◌<◌, min, nat_le, true, false, List, [], ◌∷◌, ◌++◌, length, get_or, refl, ap, arith}
+use Rattle.std.specs.List.{AllByRecursion}
 use Rattle.std.specs.List.Sorted.{IsNonDecreasing}
 use Rattle.mupip_recover.specs.Minima.{lesser, first_of, minima, up_to}
 
@@ -45,3 +46,9 @@ less_from low (x ∷ xs) h order =
 
 pub none_less : (xs : List ℕ) → IsNonDecreasing xs → NoneLess 0 xs
 none_less xs order = less_from 0 xs (λ d some. omega arith) order
+
+-- a value behind that is none less than the others is the least from its place on, and changes nothing before it
+pub minima-last : (xs : List ℕ) (n : ℕ) → AllByRecursion (λ x. x ≤ n) xs → minima (xs ++ n ∷ []) ≡ minima xs ++ n ∷ []
+minima-last [] n all = refl
+minima-last (x ∷ []) n all = let low : min x n ≡ x = omega (arith, all.0) in ap (λ (k : ℕ). k ∷ n ∷ []) low
+minima-last (x ∷ y ∷ xs) n all = ap (λ (ms : List ℕ). lesser x (first_of ms) ∷ ms) (minima-last (y ∷ xs) n all.1)

@@ -1,8 +1,10 @@
 -- The stamp of a number, by the starts of reigns.
-use Rattle.std.proofs.Common.{◌≡◌, inl, inr, ℕ, zero, suc, ◌-◌, ◌≤◌, ◌<◌, Bor, min, nat_le, Bool, true, false, List, [], ◌∷◌, length, map, slice_get, Option, Some, None, refl, sym, ◌∙◌, ap, arith, if◌then◌else◌}
+use Rattle.std.proofs.Common.{◌≡◌, inl, inr, ℕ, zero, suc, ◌-◌, ◌≤◌, ◌<◌, Bor, min, nat_le, Bool, true, false, List, [], ◌∷◌, ◌++◌, length, map, slice_get, Option, Some, None, refl, sym, ◌∙◌, ap, arith, if◌then◌else◌}
 use Rattle.std.proofs.lemmas.Bool.{cases_lt}
 use Rattle.std.proofs.lemmas.Bool.Decides.{nat_tests}
+use Rattle.std.proofs.lemmas.List.{map-append}
 use Rattle.std.proofs.lemmas.Option.{slice_get-map}
+use Rattle.std.specs.List.{AllByRecursion}
 use Rattle.std.specs.Option.{option_map, option_or}
 use Rattle.std.specs.Slice.{IsItemAt}
 use Rattle.global_defs.specs.Entry.{Reign, Stamp}
@@ -11,6 +13,7 @@ use Rattle.mupip_recover.specs.Minima.{lesser, first_of, minima, up_to}
 use Rattle.mupip_recover.specs.Stamps.{AreStarts}
 use Rattle.gvn_model.specs.declared.reign.Reign as reigns
 use Rattle.gvn_model.specs.Reigns.{stamp_value, reign_value}
+use Rattle.mupip_recover.proofs.Least.{minima-last}
 use Rattle.mupip_recover.proofs.Lookups.{item-slice_get}
 
 -- the stamp of the last of so many first reigns
@@ -90,3 +93,11 @@ is_found n rs starts are k is some r at =
     ∙ ap (option_map (λ x. x.stamp)) (sym (slice_get-map reign_value rs (k - 1)))
     ∙ ap (λ (j : ℕ). last_stamp j (map reign_value rs)) more
     ∙ sym (is_last n (map reign_value rs) starts are k is)
+
+up_to_start : (n : ℕ) (rs : List Reign) → AllByRecursion (λ (r : Reign). r.start ≤ n) rs → AllByRecursion (λ x. x ≤ n) (map (λ r. r.start) rs)
+up_to_start n [] all = tt
+up_to_start n (r ∷ rs) all = (all.0, up_to_start n rs all.1)
+
+-- one more reign that starts before none of the others
+pub starts_more : (rs : List Reign) (r : Reign) (starts : List ℕ) → AllByRecursion (λ (q : Reign). q.start ≤ r.start) rs → AreStarts rs starts → AreStarts (rs ++ r ∷ []) (starts ++ r.start ∷ [])
+starts_more rs r starts all are = ap (λ (l : List ℕ). l ++ r.start ∷ []) are ∙ sym (minima-last (map (λ r. r.start) rs) r.start (up_to_start r.start rs all)) ∙ ap minima (sym (map-append (λ (q : Reign). q.start) rs (r ∷ [])))

@@ -1,5 +1,5 @@
 -- Journals of which settled parts and records before a floor were dropped: their epochs, images and generations are told by the rest.
-use Rattle.std.proofs.Common.{◌≡◌, ◌⊎◌, inl, inr, ℕ, ◌==◌, Bool, true, false, List, [], ◌∷◌, Option, Some, None, refl, sym, ◌∙◌, ap, subst}
+use Rattle.std.proofs.Common.{◌≡◌, inl, inr, ℕ, ◌==◌, Bool, true, false, List, [], ◌∷◌, Option, Some, None, refl, sym, ◌∙◌, ap, subst}
 use Rattle.std.specs.Prelude.{◌&&◌, ◌||◌, nat_lt, nat_le, is_some, unwrap_or, replicate, if◌then◌else◌}
 use Rattle.std.specs.List.{find, list_any}
 use Rattle.std.specs.Option.{option_or, option_map}
@@ -9,16 +9,13 @@ use Rattle.journal_defs.specs.Instance.{InstanceRecord}
 use Rattle.journal_defs.specs.Surviving.{survives}
 use Rattle.journal_defs.specs.Sequence.{Placed}
 use Rattle.journal_defs.specs.Epochs.{Blocks, Chosen, epoch_in, last_epoch, beginning, chosen, image_in, image_of, image_state, starts_without, first_without, NeedsForward}
+use Rattle.entry_index.proofs.Either.{either, first_none}
 use Rattle.entry_index.specs.Thinned.{part_generation, IsSettled, MayGo, is_floor_in, has_floor, IsThinned}
 
 some_of : (a b c : Bool) (x : Chosen) → (a && b && c) ≡ true → is_some (if a && b then Some x else None) ≡ true
 some_of true true c x is = refl
 some_of true false c x is = absurd (cc is)
 some_of false b c x is = absurd (cc is)
-
-either : (a b : Bool) → (a || b) ≡ true → (a ≡ true) ⊎ (b ≡ true)
-either true b is = inl refl
-either false b is = inr is
 
 or_first : (a b : Option Chosen) → is_some a ≡ true → is_some (option_or a b) ≡ true
 or_first None b some = absurd (cc some)
@@ -27,10 +24,6 @@ or_first (Some x) b some = refl
 or_second : (a b : Option Chosen) → is_some b ≡ true → is_some (option_or a b) ≡ true
 or_second None b some = some
 or_second (Some x) b some = refl
-
-first_none : (a b : Option Chosen) → option_or a b ≡ None → a ≡ None
-first_none None b none = refl
-first_none (Some x) b none = absurd (cc none)
 
 -- an epoch over what is kept: the records behind it are thinned, too, and none of them is an epoch to which one goes back
 pub record IsSameEpoch (instance : List InstanceRecord) (t n : ℕ) (whole kept : Chosen) : Type 0 where

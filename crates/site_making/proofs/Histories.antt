@@ -1,10 +1,6 @@
 -- The history of a site whose files were read.
-use Rattle.std.proofs.Common.{◌≡◌, ℕ, ◌+◌, ◌≤◌, ◌<◌, [], ◌∷◌, ◌++◌, length, if◌then◌else◌, Option, IfSome, sym, ◌∙◌, ap, subst}
-use Rattle.std.specs.Prelude.{filter, map, take, get_or, nat_le, List}
-use Rattle.std.proofs.lemmas.List.{map-append, take_more}
-use Rattle.std.proofs.lemmas.List.Elements.{filter-append}
-use Rattle.gvn_model.specs.Reigns.{reign_value}
-use Rattle.gvn_model.specs.declared.reign.Reign as code
+use Rattle.std.proofs.Common.{◌≡◌, ℕ, ◌≤◌, ◌<◌, length, Option, IfSome, sym, ◌∙◌, ap, subst}
+use Rattle.std.specs.Prelude.{filter, nat_le, List}
 use Rattle.std.specs.List.{AllByRecursion}
 use Rattle.disk_defs.specs.Disk.{Files}
 use Rattle.disk_defs.proofs.Told.{weaker_told}
@@ -23,14 +19,6 @@ use Rattle.site_defs.specs.Contents.{Contents}
 use Rattle.site_defs.specs.Stands.{IsSite}
 use Rattle.site_making.specs.Finding.{IsHistory, IsHistoryOf}
 use Rattle.site_store.proofs.Found.{region_count, site_instance, made_some}
-
--- one reign more that is looked at
-pub kept_more : (n : ℕ) (xs : List code.Reign) (i : ℕ) (x : code.Reign) → i < length xs → x ≡ get_or xs i x
-    → filter (λ r. nat_le r.start n) (map reign_value (take (i + 1) xs)) ≡ filter (λ r. nat_le r.start n) (map reign_value (take i xs)) ++ (if nat_le x.start n then reign_value x ∷ [] else [])
-kept_more n xs i x inside is =
-    ap (λ (l : List code.Reign). filter (λ r. nat_le r.start n) (map reign_value l)) (take_more xs i x inside ∙ ap (λ (y : code.Reign). take i xs ++ y ∷ []) (sym is))
-    ∙ ap (filter (λ r. nat_le r.start n)) (map-append reign_value (take i xs) (x ∷ []))
-    ∙ filter-append (λ r. nat_le r.start n) (map reign_value (take i xs)) (reign_value x ∷ [])
 
 -- files that hold no site's records are no site's
 pub no_records : (o : Option Files) → IfSome o HoldNoSite → IfSome o (λ files. (c : Contents) → IsSite files c → ⊥)

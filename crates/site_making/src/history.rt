@@ -1,8 +1,7 @@
 //! The history of a site that isn't open.
-ghost use Rattle.std.specs.Prelude.{◌≡◌, ◌⊎◌, ℕ, nat_le, filter, map, IfOk, IfSome, OnErr, IsErrOf};
+ghost use Rattle.std.specs.Prelude.{◌≡◌, ◌⊎◌, ℕ, IfOk, IfSome, OnErr, IsErrOf};
 ghost use Rattle.disk_defs.specs.Disk.{Image, AtEachMoment, MayFail};
 ghost use Rattle.global_defs.specs.Entry.{Sequence};
-ghost use Rattle.gvn_model.specs.Reigns.{reign_value};
 ghost use Rattle.journal_defs.specs.Sequence.{Records, IsSequence};
 ghost use Rattle.journal_defs.specs.Stands.{AreRecords};
 ghost use Rattle.site_defs.specs.Contents.{Contents};
@@ -10,25 +9,11 @@ ghost use Rattle.site_defs.specs.Stands.{IsSite};
 ghost use Rattle.site_defs.specs.Outside.{IsOutsideRecords};
 ghost use Rattle.site_making.specs.Finding.{IsHistory, IsHistoryOf};
 
-use gvn_key::NoMemory;
-use gvn_model::{History, Reign, Reigns};
+use gvn_model::History;
 use repl_disk::Disk;
 use site_files::{ReadEntries, read_records};
 use site_store::SiteError;
 use std::alloc::Global;
-
-/// Those of these reigns that begin by that number.
-fn reigns_by(alloc: Global, reigns: &[Reign], number: u64) -> Result<Reigns, NoMemory>
-    ensures { IfOk result (λ made. made ≡ filter (λ r. nat_le r.start number) (map reign_value reigns.now)) }
-{
-    let mut made = Reigns::new(alloc);
-    for reign in reigns {
-        if reign.start <= number {
-            made.push(reign.copy()?)?;
-        }
-    }
-    Ok(made)
-}
 
 /// The history of the site that stands on a disk: how long the sequence is that its files stand for as they read, and the reigns in
 /// which its entries were made. It syncs the files first, and writes nothing. It takes a site of any number of generations.
@@ -51,6 +36,6 @@ pub fn history_of<D: Disk>(alloc: Global, disk: &mut D) -> Result<History, SiteE
     let found = read_records(alloc, disk, u64::MAX)?;
     let ReadEntries { read, entries } = found;
     let length = entries.len();
-    let reigns = reigns_by(alloc, read.log.history.as_slice(), length)?;
+    let reigns = read.log.history.begun_by(length)?;
     Ok(History { length, reigns })
 }

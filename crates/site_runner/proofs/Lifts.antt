@@ -1,5 +1,6 @@
 -- What a row does at one slot's place, in the world.
-use Rattle.std.proofs.Common.{◌≡◌, ℕ, zero, suc, ◌<◌, ◌≤◌, Bool, true, false, cond, List, [], ◌∷◌, ◌++◌, length, get_or, set, None, Some, refl, sym, ◌∙◌, ap, subst, arith, inl, length-set}
+use Rattle.std.proofs.Common.{◌≡◌, ℕ, zero, suc, ◌<◌, ◌≤◌, Bool, true, false, cond, List, [], ◌∷◌, ◌++◌, length, get_or, take, set, swap, swap_remove, None, Some, refl, sym, ◌∙◌, ap, subst, arith, inl, length-set}
+use Rattle.std.proofs.Math.Seq.{get_or-append_seam, set-append_seam}
 use Rattle.std.specs.Prelude.{Option, option_map, slice_get, remove, insert, Result, Ok, Err, IfOk, OnOk, OnErr}
 use Rattle.disk_defs.specs.Disk.{View}
 use Rattle.site_defs.specs.Contents.{Contents, Standing}
@@ -231,8 +232,40 @@ still_inside xs ys i x k e = subst (λ (l : List _). i ≤ length l) (sym e) (in
     inside (y ∷ xs) zero x k = omega arith
     inside (y ∷ xs) (suc i) x k = let r = inside xs i x k in omega (arith, r)
 
-pub ready_back : {D : Type 0} (view : D → View) (xs ys zs : List (Slot D)) (i : ℕ) (x s : Slot D) → slice_get xs i ≡ Some x → ys ≡ remove xs i → zs ≡ insert ys i s → AreReady view xs → IsReadySlot view s → AreReady view zs
-ready_back {D} view xs ys zs i x s k e f h r = subst (λ (l : List (Slot D)). AreReady view l) (sym (put_back_is xs ys zs i x s k e f)) (ready_set view xs i s h r)
+-- The same where the last slot stood there meanwhile.
 
-pub length_back : {X : Type 0} (xs ys zs : List X) (i : ℕ) (x y : X) → slice_get xs i ≡ Some x → ys ≡ remove xs i → zs ≡ insert ys i y → length zs ≡ length xs
-length_back xs ys zs i x y k e f = ap length (put_back_is xs ys zs i x y k e f) ∙ length-set xs i y
+-- what `swap_remove` leaves
+abbrev others : {X : Type 0} (z : X) (l : List X) (i : ℕ) (x : X) → List X
+others z l i x = take (length l) (set (z ∷ l) i (get_or (z ∷ l) (length l) x))
+
+-- y is added, and swapped with the one at i
+abbrev swapped_in : {X : Type 0} (d : X) (l : List X) (i : ℕ) (y : X) → List X
+swapped_in d l i y = set (set (l ++ y ∷ []) i (get_or (l ++ y ∷ []) (length l) d)) (length l) (get_or (l ++ y ∷ []) i d)
+
+all_with_last : {X : Type 0} (z : X) (l : List X) (d : X) → take (length l) (z ∷ l) ++ get_or (z ∷ l) (length l) d ∷ [] ≡ z ∷ l
+all_with_last z [] d = refl
+all_with_last z (w ∷ l) d = ap (λ (m : List _). z ∷ m) (all_with_last w l d)
+
+swapped_in_is : {X : Type 0} (d z : X) (l : List X) (i : ℕ) (x y : X) → slice_get (z ∷ l) i ≡ Some x → swapped_in d (others z l i x) i y ≡ set (z ∷ l) i y
+swapped_in_is d z [] zero x y k = refl
+swapped_in_is d z [] (suc i) x y k = cc
+swapped_in_is d z (w ∷ l) zero x y k =
+    let front = take (length l) (w ∷ l) in
+    let last = get_or (w ∷ l) (length l) x in
+    ap (λ (v : _). v ∷ set (front ++ y ∷ []) (length front) last) (get_or-append_seam front y [] d) ∙ ap (λ (m : List _). y ∷ m) (set-append_seam front y [] last ∙ all_with_last w l x)
+swapped_in_is d z (w ∷ l) (suc i) x y k = ap (λ (m : List _). z ∷ m) (swapped_in_is d w l i x y k)
+
+pub swapped_back_is : {X : Type 0} (xs ys zs : List X) (i : ℕ) (x y : X) → slice_get xs i ≡ Some x → ys ≡ swap_remove xs i x → zs ≡ swap (ys ++ y ∷ []) i (length ys) → zs ≡ set xs i y
+swapped_back_is [] ys zs i x y k e f = cc
+swapped_back_is {X} (z ∷ l) ys zs i x y k e f =
+    f ∙ ap (λ (m : List _). swap (m ++ y ∷ []) i (length m)) (e ∙ ap (λ (n : ℕ). take n (set (z ∷ l) i (get_or (z ∷ l) n x))) (omega arith)) ∙ by_default (others z l i x ++ y ∷ []) i (length (others z l i x)) (λ d. swapped_in_is d z l i x y k)
+  where
+    by_default : (l : List X) (i j : ℕ) {r : List X} → ((d : X) → set (set l i (get_or l j d)) j (get_or l i d) ≡ r) → swap l i j ≡ r
+    by_default [] i j h = h x
+    by_default (d ∷ l) i j h = h d
+
+pub ready_back : {D : Type 0} (view : D → View) (xs zs : List (Slot D)) (i : ℕ) (s : Slot D) → zs ≡ set xs i s → AreReady view xs → IsReadySlot view s → AreReady view zs
+ready_back {D} view xs zs i s e h r = subst (λ (l : List (Slot D)). AreReady view l) (sym e) (ready_set view xs i s h r)
+
+pub length_back : {X : Type 0} (xs zs : List X) (i : ℕ) (y : X) → zs ≡ set xs i y → length zs ≡ length xs
+length_back xs zs i y e = ap length e ∙ length-set xs i y

@@ -13,7 +13,7 @@ use super::create::create;
 use super::ending::Ended;
 use super::epoch::epoch;
 use super::extracting::extract;
-use super::finding::{find, put_back};
+use super::finding::{find, put_back_swapped};
 use super::fusing::{crash_failed, crash_open, fuse_down, fuse_open};
 use super::mapping::map;
 use super::printing::{print_down, print_open};
@@ -233,9 +233,10 @@ fn execute_named<D: Disk>(
     match find(slots, name) {
         None => refuse(text, name, &Cause::NoSite),
         Some(i) => {
-            let slot = slots.remove(i);
+            // the last slot stands there meanwhile, so that no slot moves but these two
+            let slot = slots.swap_remove(i);
             let (slot, ended) = execute_at(alloc, slot, command, text);
-            put_back(slots, i, slot);
+            put_back_swapped(slots, i, slot);
             ended
         }
     }

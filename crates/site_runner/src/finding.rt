@@ -1,5 +1,5 @@
 // Where sites stand.
-ghost use Rattle.std.specs.Prelude.{◌≡◌, ◌≤◌, ◌<◌, length, remove, insert, take, slice_get, Some, IfSome, OnSome, MatchOption, vec_capacity, option_map};
+ghost use Rattle.std.specs.Prelude.{◌≡◌, ◌≤◌, ◌<◌, ◌++◌, ◌∷◌, [], length, remove, insert, swap, take, slice_get, Some, IfSome, OnSome, MatchOption, vec_capacity, option_map};
 ghost use Rattle.site_defs.specs.Lists.{first_where};
 ghost use Rattle.site_runner.specs.Sites.{is_slot_named, is_slot_free};
 
@@ -74,4 +74,17 @@ pub fn put_back<D: Disk>(slots: &mut Vec<Slot<D>>, i: usize, slot: Slot<D>)
     if slots.insert(i, slot).is_err() {
         unreachable!();
     }
+}
+
+/// Puts a slot back at the place from which it was taken out, where the last slot stands meanwhile, which goes back too.
+pub fn put_back_swapped<D: Disk>(slots: &mut Vec<Slot<D>>, i: usize, slot: Slot<D>)
+    requires inside { i ≤ length slots.old.items }
+    requires room { length slots.old.items < vec_capacity slots.old }
+    ensures { slots.new.items ≡ swap (slots.old.items ++ slot ∷ []) i (length slots.old.items) }
+{
+    let last = slots.len();
+    if slots.push(slot).is_err() {
+        unreachable!();
+    }
+    slots.swap(i, last);
 }

@@ -17,7 +17,13 @@ use Rattle.journal_defs.specs.Numbers.{INSTANCE, journal_file, database_file, lo
 use Rattle.journal_defs.specs.Journal.{Part}
 use Rattle.journal_defs.specs.Instance.{InstanceRecord, Reigned, generation, regions, site_name, greatest_cycle}
 use Rattle.journal_defs.specs.Directory.{Pattern, patterns}
+use Rattle.journal_defs.specs.Surviving as surviving
 use Rattle.journal_defs.specs.Surviving.{reigns}
+use Rattle.gvn_model.specs.declared.history.History.{History}
+use Rattle.mupip_recover.specs.Minima.{minima}
+use Rattle.mupip_recover.specs.Stamps.{AreStarts}
+use Rattle.mupip_recover.proofs.StampLaws.{starts_more}
+use Rattle.site_store.specs.Owning.{HasHistory}
 use Rattle.journal_defs.specs.Sequence.{Placed, Records}
 use Rattle.journal_defs.specs.Stands.{IsInstance, in_generation}
 use Rattle.journal_defs.specs.Epochs.{Chosen, chosen, block_of}
@@ -478,3 +484,28 @@ quiet_left v c old is = started v (λ f. IsSiteWith f (bare c) ⊎ IsSiteWith f 
 
 pub quiet : (v : View) (c : Contents) (old : Memory) → IsOpen v true c (length c.sequence) old → AtEachMoment v v (λ f. IsSite f c ⊎ IsSite f (begun c))
 quiet v c old is = started v (λ f. IsSite f c ⊎ IsSite f (begun c)) (λ f now. inl (images_stand v c old is f now))
+
+-- the history, and the starts of its reigns
+not_past : (n m : ℕ) (rs : List Reign) → AllByRecursion (λ (q : Reign). q.start ≤ n) rs → n ≤ m → AllByRecursion (λ (q : Reign). q.start ≤ m) rs
+not_past n m [] all more = tt
+not_past n m (r ∷ rs) all more = (omega (arith, all.0), not_past n m rs all.1 more)
+
+pub history_begun : (old new : Memory) (was now : History) (r : Reign) → HasHistory old was → now.length ≡ was.length → now.reigns ≡ was.reigns ++ r ∷ [] → new.entries ≡ old.entries
+    → new.instance.records ≡ old.instance.records ++ Reigned r ∷ [] → HasHistory new now
+history_begun old new was now r has length reigns entries records = record {
+  count = length ∙ has.count ∙ ap entry_count (sym entries);
+  surviving = reigns ∙ ap (λ (l : List Reign). l ++ r ∷ []) has.surviving ∙ sym (runs.reigns-more old.instance.records r) ∙ sym (ap surviving.reigns records);
+}
+
+pub history_same : (old new : Memory) (was now : History) → HasHistory old was → now.length ≡ was.length → now.reigns ≡ was.reigns → new.entries ≡ old.entries → new.instance.records ≡ old.instance.records → HasHistory new now
+history_same old new was now has length reigns entries records = record {
+  count = length ∙ has.count ∙ ap entry_count (sym entries);
+  surviving = reigns ∙ has.surviving ∙ sym (ap surviving.reigns records);
+}
+
+pub starts_begun : (old new : Memory) (r : Reign) (was now : List ℕ) → AllByRecursion (λ (q : Reign). q.start ≤ count_of old) (reigns old.instance.records) → IsNextReign old r → AreStarts (reigns old.instance.records) was → now ≡ was ++ r.start ∷ []
+    → new.instance.records ≡ old.instance.records ++ Reigned r ∷ [] → AreStarts (reigns new.instance.records) now
+starts_begun old new r was now all is are starts records =
+    let e = is.start in
+    starts ∙ starts_more (reigns old.instance.records) r was (not_past (count_of old) r.start (reigns old.instance.records) all (omega (arith, e))) are
+    ∙ ap (λ (l : List Reign). minima (map (λ (q : Reign). q.start) l)) (sym (runs.reigns-more old.instance.records r) ∙ sym (ap surviving.reigns records))

@@ -17,6 +17,7 @@ ghost use Rattle.gvn_model.specs.Reigns.{stamp_value, reign_value};
 ghost use Rattle.journal_defs.specs.Numbers.{INSTANCE};
 ghost use Rattle.journal_defs.specs.Instance as instances;
 ghost use Rattle.journal_defs.specs.Instance.{IsInForm, generation, site_name};
+ghost use Rattle.global_defs.specs.Entry as defs;
 ghost use Rattle.global_defs.specs.Entry.{Entry, Sequence};
 ghost use Rattle.journal_defs.specs.Sequence.{Records, IsSequence};
 ghost use Rattle.journal_defs.specs.Stands.{IsInstance, AreRecords};
@@ -50,7 +51,7 @@ use crate::reading::read_file;
 use crate::showing::{write_entry, write_nodes};
 use gvn_globals::Lookup;
 use gvn_key::{Bytes, Key, NoMemory};
-use gvn_model::{History, Reign, Reigns, Stamp, Transaction};
+use gvn_model::{History, Reign, Stamp, Transaction};
 use instance_file::Instance;
 use mupip_recover::starts_of;
 use repl_disk::Disk;
@@ -77,14 +78,16 @@ pub struct Site<D: Disk> {
     fault: Option<u64>,
 }
 
-/// A reign that is to begin, its stamp for the site and for the caller, and the reigns with it.
+/// A reign that is to begin, with the copies that go to the site and to the caller.
 #[derive(Drop)]
 struct NextReign {
     reign: Reign,
+    /// For the history.
+    added: Reign,
+    /// For the caller.
     stamp: Stamp,
+    /// For the entries.
     kept: Stamp,
-    reigns: Reigns,
-    starts: Vec<u64>,
 }
 
 /// The history of an open site, and the starts by which its entries' reigns are found.
@@ -99,6 +102,34 @@ fn history_in(alloc: Global, site: &Memory) -> Result<(History, Vec<u64>), NoMem
         reigns: reigns.copy()?,
     };
     Ok((history, starts))
+}
+
+/// Adds a reign to a history, and its start behind the others.
+fn add_reign(history: &mut History, starts: &mut Vec<u64>, reign: Reign) -> Result<(), NoMemory>
+    ensures length { history.new.length ≡ history.old.length }
+    ensures reigns { OnOk result (history.new.reigns ≡ history.old.reigns ++ reign_value reign ∷ []) }
+    ensures starts { OnOk result (starts.new.items ≡ starts.old.items ++ reign.start ∷ []) }
+    ensures same { OnErr result (history.new.reigns ≡ history.old.reigns) }
+    ensures same_starts { OnErr result (starts.new.items ≡ starts.old.items) }
+{
+    let start = reign.start;
+    history.reigns.push(reign)?;
+    if starts.push(start).is_err() {
+        history.reigns.drop_last();
+        return Err(NoMemory);
+    }
+    Ok(())
+}
+
+/// Takes a history's last reign and its start away again.
+fn drop_reign(history: &mut History, starts: &mut Vec<u64>)
+    requires { 0 < length history.old.reigns }
+    ensures length { history.new.length ≡ history.old.length }
+    ensures reigns { (rs : List defs.Reign) (r : defs.Reign) → history.old.reigns ≡ rs ++ r ∷ [] → history.new.reigns ≡ rs }
+    ensures starts { (ns : List ℕ) (n : ℕ) → starts.old.items ≡ ns ++ n ∷ [] → starts.new.items ≡ ns }
+{
+    history.reigns.drop_last();
+    starts.pop();
 }
 
 impl<D: Disk> Site<D> {
@@ -200,31 +231,23 @@ impl<D: Disk> Site<D> {
         }
     }
 
-    /// The next reign, with all the memory that beginning it takes.
+    /// The next reign, and a copy of it, its stamp for the site and for the caller.
     fn next_reign(&self) -> Result<NextReign, SiteError>
         requires few { count_of (memory_of self.now) < 2 ^ 40 }
         ensures next { IfOk result (λ n. IsNextReign (memory_of self.now) (reign_value n.reign)) }
         ensures stamp { IfOk result (λ n. stamp_value n.stamp ≡ (reign_value n.reign).stamp) }
         ensures kept { IfOk result (λ n. n.kept ≡ n.stamp) }
-        ensures reigns { IfOk result (λ n. n.reigns ≡ self.now.history.reigns ++ reign_value n.reign ∷ []) }
-        ensures starts { IfOk result (λ n. AreStarts n.reigns n.starts.items) }
+        ensures added { IfOk result (λ n. n.added ≡ n.reign) }
         ensures room { OnOk result (HasReignLeft (memory_of self.now)) }
         ensures limit { IsErrOf result SiteError.ReignLimit → HasNoReignLeft (memory_of self.now) }
         ensures causes { OnErr result (IsErrOf result SiteError.ReignLimit ⊎ IsErrOf result SiteError.NoMemory) }
     {
-        let alloc = self.inner.instance.gated.alloc;
-        let reign = self.inner.next_reign(alloc)?;
-        let mut reigns = self.history.reigns.copy()?;
-        reigns.push(reign.copy()?)?;
-        let starts = starts_of(alloc, reigns.as_slice())?;
-        let stamp = reign.stamp.copy()?;
-        let kept = reign.stamp.copy()?;
+        let reign = self.inner.next_reign(self.inner.instance.gated.alloc)?;
         Ok(NextReign {
+            added: reign.copy()?,
+            stamp: reign.stamp.copy()?,
+            kept: reign.stamp.copy()?,
             reign,
-            stamp,
-            kept,
-            reigns,
-            starts,
         })
     }
 
@@ -271,18 +294,15 @@ impl<D: Disk> Site<D> {
         }
         let NextReign {
             reign,
+            added,
             stamp,
             kept,
-            reigns,
-            starts,
         } = self.next_reign()?;
+        add_reign(&mut self.history, &mut self.starts, added)?;
         match self.inner.begin_reign(&mut self.disk, &reign, kept) {
-            Ok(()) => {
-                self.history.reigns = reigns;
-                self.starts = starts;
-                Ok(stamp)
-            }
+            Ok(()) => Ok(stamp),
             Err(error) => {
+                drop_reign(&mut self.history, &mut self.starts);
                 self.note(error);
                 Err(error)
             }

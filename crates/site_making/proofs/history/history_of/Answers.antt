@@ -37,7 +37,7 @@ returns-clause-history g c =
     let rs = c.in_ok-found.found.read.log.records in
     let n = c.len-length.result in
     let own : c.in_ok-found.found.read.log.history ≡ reigns rs = search rules in
-    let made : c.in_ok-reigns.reigns ≡ filter (λ (r : Reign). nat_le r.start n) (reigns rs) = c.in_ok-reigns.ensures ∙ ap (filter (λ (r : Reign). nat_le r.start n)) (c.as_slice.ensures ∙ own) in
+    let made : c.in_ok-reigns.reigns ≡ filter (λ (r : Reign). nat_le r.start n) (reigns rs) = c.in_ok-reigns.ensures ∙ ap (filter (λ (r : Reign). nat_le r.start n)) own in
     history_read (g.D.Disk.disk c.args.disk.now).content rs n (record { length = n; reigns = c.in_ok-reigns.reigns })
     (held_entries (g.D.Disk.disk c.args.disk.now).content rs c.in_ok-found.found.read.lowest (map (λ s. s.items) c.in_ok-found.found.read.signs.items) c.in_ok-found.found.entries n c.len-length.ensures.count c.in_ok-found.ensures.held) refl made
 
@@ -46,6 +46,6 @@ returns-clause-told g c =
     let rs = c.in_ok-found.found.read.log.records in
     let n = c.len-length.result in
     let own : c.in_ok-found.found.read.log.history ≡ reigns rs = search rules in
-    let made : c.in_ok-reigns.reigns ≡ filter (λ (r : Reign). nat_le r.start n) (reigns rs) = c.in_ok-reigns.ensures ∙ ap (filter (λ (r : Reign). nat_le r.start n)) (c.as_slice.ensures ∙ own) in
+    let made : c.in_ok-reigns.reigns ≡ filter (λ (r : Reign). nat_le r.start n) (reigns rs) = c.in_ok-reigns.ensures ∙ ap (filter (λ (r : Reign). nat_le r.start n)) own in
     history_told (g.D.Disk.disk c.args.disk.now).content rs n (record { length = n; reigns = c.in_ok-reigns.reigns })
     (held_entries (g.D.Disk.disk c.args.disk.now).content rs c.in_ok-found.found.read.lowest (map (λ s. s.items) c.in_ok-found.found.read.signs.items) c.in_ok-found.found.entries n c.len-length.ensures.count c.in_ok-found.ensures.held) refl made

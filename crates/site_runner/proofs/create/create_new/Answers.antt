@@ -34,9 +34,11 @@ put_back-requires-clause-inside g c = let taken = c.in-Some.ensures.taken in sti
 
 pub returns-in-Some-clause-ready : goal.returns-in-Some-clause-ready
 returns-in-Some-clause-ready g c =
+    let xs = c.args.slots.now.items in
     let taken = c.in-Some.ensures.taken in
     let left = c.create_at-slot.result in
-    on_ok left.1 _ _ c.create_at-slot.ensures.ready (λ r. ready_back g.D.Disk.disk c.args.slots.now.items c.take_free.new.slots.items c.put_back.new.slots.items c.in-Some.i (Free c.in-Some.disk) left.0 taken.0 taken.1 c.put_back.ensures c.requires.ready r)
+    let back = put_back_is xs c.take_free.new.slots.items c.put_back.new.slots.items c.in-Some.i (Free c.in-Some.disk) left.0 taken.0 taken.1 c.put_back.ensures in
+    on_ok left.1 _ _ c.create_at-slot.ensures.ready (λ r. ready_back g.D.Disk.disk xs c.put_back.new.slots.items c.in-Some.i left.0 back c.requires.ready r)
 
 pub returns-in-Some-clause-done : goal.returns-in-Some-clause-done
 returns-in-Some-clause-done g c =
@@ -63,5 +65,7 @@ returns-in-None-clause-length g c = ap (λ (x : List (Slot g.row.D.Denot)). leng
 
 pub returns-in-Some-clause-length : goal.returns-in-Some-clause-length
 returns-in-Some-clause-length g c =
+    let xs = c.args.slots.now.items in
     let taken = c.in-Some.ensures.taken in
-    length_back c.args.slots.now.items c.take_free.new.slots.items c.put_back.new.slots.items c.in-Some.i (Free c.in-Some.disk) c.create_at-slot.result.0 taken.0 taken.1 c.put_back.ensures
+    let y = c.create_at-slot.result.0 in
+    length_back xs c.put_back.new.slots.items c.in-Some.i y (put_back_is xs c.take_free.new.slots.items c.put_back.new.slots.items c.in-Some.i (Free c.in-Some.disk) y taken.0 taken.1 c.put_back.ensures)

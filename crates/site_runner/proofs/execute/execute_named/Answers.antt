@@ -8,7 +8,7 @@ use Rattle.site_runner.specs.Sites.{is_slot_named}
 use Rattle.site_runner.specs.Executes.{Executes, IsCutOff}
 use Rattle.site_runner.specs.Named.{name_in}
 use Rattle.site_runner.proofs.Results.{on_ok, on_refused, err_so, ok_so}
-use Rattle.site_runner.proofs.Lifts.{named_done, named_cut_off, no_site, no_site_cut, passes_there, taken_out, ready_there, put_back_is, still_inside, ready_back, length_back}
+use Rattle.site_runner.proofs.Lifts.{named_done, named_cut_off, no_site, no_site_cut, passes_there, taken_out, ready_there, swapped_back_is, ready_back, length_back}
 use Rattle.site_runner.proofs.execute.execute_named.Goals as goal
 
 -- where the search went, over the slots and by the command's name
@@ -20,21 +20,15 @@ pub execute_at-slot-requires-clause-site : goal.execute_at-slot-requires-clause-
 execute_at-slot-requires-clause-site g c =
     let name = name_in (command_value c.args.command) in
     let xs = c.args.slots.now.items in
-    let x = c.remove-slot.result in
+    let x = c.swap_remove-slot.result in
     let f = found_so name c.as_slice-name.result.now xs c.deref.result.now (Some c.in-Some.i) (c.as_slice-name.ensures ∙ c.name_of.ensures) c.deref.ensures.value c.in-Some.ensures.place in
-    passes_there (is_slot_named name) xs c.in-Some.i x (taken_out xs c.deref.result.now c.in-Some.i x c.deref.ensures.value c.in-Some.ensures.inside c.remove-slot.ensures.value) f
+    passes_there (is_slot_named name) xs c.in-Some.i x (taken_out xs c.deref.result.now c.in-Some.i x c.deref.ensures.value c.in-Some.ensures.inside c.swap_remove-slot.ensures.value) f
 
 pub execute_at-slot-requires-clause-ready : goal.execute_at-slot-requires-clause-ready
 execute_at-slot-requires-clause-ready g c =
     let xs = c.args.slots.now.items in
-    let x = c.remove-slot.result in
-    ready_there g.D.Disk.disk xs c.in-Some.i x (taken_out xs c.deref.result.now c.in-Some.i x c.deref.ensures.value c.in-Some.ensures.inside c.remove-slot.ensures.value) c.requires.ready
-
-pub put_back-requires-clause-inside : goal.put_back-requires-clause-inside
-put_back-requires-clause-inside g c =
-    let xs = c.args.slots.now.items in
-    let x = c.remove-slot.result in
-    still_inside xs c.remove-slot.new.self.items c.in-Some.i x (taken_out xs c.deref.result.now c.in-Some.i x c.deref.ensures.value c.in-Some.ensures.inside c.remove-slot.ensures.value) c.remove-slot.ensures.items
+    let x = c.swap_remove-slot.result in
+    ready_there g.D.Disk.disk xs c.in-Some.i x (taken_out xs c.deref.result.now c.in-Some.i x c.deref.ensures.value c.in-Some.ensures.inside c.swap_remove-slot.ensures.value) c.requires.ready
 
 pub returns-in-None-clause-ready : goal.returns-in-None-clause-ready
 returns-in-None-clause-ready g c = ok_so c.refuse.result _ c.requires.ready
@@ -53,21 +47,23 @@ returns-in-None-clause-cut_off g c = err_so c.refuse.result _ (no_site_cut g.D.D
 pub returns-in-Some-clause-ready : goal.returns-in-Some-clause-ready
 returns-in-Some-clause-ready g c =
     let xs = c.args.slots.now.items in
-    let x = c.remove-slot.result in
+    let i = c.in-Some.i in
+    let x = c.swap_remove-slot.result in
     let left = c.execute_at-slot.result in
-    on_ok left.1 _ _ c.execute_at-slot.ensures.ready (λ r. ready_back g.D.Disk.disk xs c.remove-slot.new.self.items c.put_back.new.slots.items c.in-Some.i x left.0
-    (taken_out xs c.deref.result.now c.in-Some.i x c.deref.ensures.value c.in-Some.ensures.inside c.remove-slot.ensures.value) c.remove-slot.ensures.items c.put_back.ensures c.requires.ready r)
+    let k = taken_out xs c.deref.result.now i x c.deref.ensures.value c.in-Some.ensures.inside c.swap_remove-slot.ensures.value in
+    let back = swapped_back_is xs c.swap_remove-slot.new.self.items c.put_back_swapped.new.slots.items i x left.0 k c.swap_remove-slot.ensures.items c.put_back_swapped.ensures in
+    on_ok left.1 _ _ c.execute_at-slot.ensures.ready (λ r. ready_back g.D.Disk.disk xs c.put_back_swapped.new.slots.items i left.0 back c.requires.ready r)
 
 pub returns-in-Some-clause-done : goal.returns-in-Some-clause-done
 returns-in-Some-clause-done g c =
     let cmd = command_value c.args.command in
     let xs = c.args.slots.now.items in
     let i = c.in-Some.i in
-    let x = c.remove-slot.result in
+    let x = c.swap_remove-slot.result in
     let left = c.execute_at-slot.result in
     let f = found_so (name_in cmd) c.as_slice-name.result.now xs c.deref.result.now (Some i) (c.as_slice-name.ensures ∙ c.name_of.ensures) c.deref.ensures.value c.in-Some.ensures.place in
-    let k = taken_out xs c.deref.result.now i x c.deref.ensures.value c.in-Some.ensures.inside c.remove-slot.ensures.value in
-    let back = put_back_is xs c.remove-slot.new.self.items c.put_back.new.slots.items i x left.0 k c.remove-slot.ensures.items c.put_back.ensures in
+    let k = taken_out xs c.deref.result.now i x c.deref.ensures.value c.in-Some.ensures.inside c.swap_remove-slot.ensures.value in
+    let back = swapped_back_is xs c.swap_remove-slot.new.self.items c.put_back_swapped.new.slots.items i x left.0 k c.swap_remove-slot.ensures.items c.put_back_swapped.ensures in
     subst (λ (l : List (Slot g.row.D.Denot)). OnOk left.1 (Executes g.D.Disk.disk cmd xs l c.args.text.now c.execute_at-slot.new.text)) (sym back)
     (named_done g.D.Disk.disk cmd xs c.requires.command i x left c.args.text.now c.execute_at-slot.new.text k f c.execute_at-slot.ensures.left)
 
@@ -76,16 +72,19 @@ returns-in-Some-clause-cut_off g c =
     let cmd = command_value c.args.command in
     let xs = c.args.slots.now.items in
     let i = c.in-Some.i in
-    let x = c.remove-slot.result in
+    let x = c.swap_remove-slot.result in
     let left = c.execute_at-slot.result in
     let f = found_so (name_in cmd) c.as_slice-name.result.now xs c.deref.result.now (Some i) (c.as_slice-name.ensures ∙ c.name_of.ensures) c.deref.ensures.value c.in-Some.ensures.place in
-    let k = taken_out xs c.deref.result.now i x c.deref.ensures.value c.in-Some.ensures.inside c.remove-slot.ensures.value in
-    let back = put_back_is xs c.remove-slot.new.self.items c.put_back.new.slots.items i x left.0 k c.remove-slot.ensures.items c.put_back.ensures in
+    let k = taken_out xs c.deref.result.now i x c.deref.ensures.value c.in-Some.ensures.inside c.swap_remove-slot.ensures.value in
+    let back = swapped_back_is xs c.swap_remove-slot.new.self.items c.put_back_swapped.new.slots.items i x left.0 k c.swap_remove-slot.ensures.items c.put_back_swapped.ensures in
     subst (λ (l : List (Slot g.row.D.Denot)). OnErr left.1 (IsCutOff g.D.Disk.disk cmd xs l)) (sym back)
     (named_cut_off g.D.Disk.disk cmd xs c.requires.command i x left c.args.text.now c.execute_at-slot.new.text k f c.execute_at-slot.ensures.left)
 
 pub returns-in-Some-clause-length : goal.returns-in-Some-clause-length
 returns-in-Some-clause-length g c =
     let xs = c.args.slots.now.items in
-    let x = c.remove-slot.result in
-    length_back xs c.remove-slot.new.self.items c.put_back.new.slots.items c.in-Some.i x c.execute_at-slot.result.0 (taken_out xs c.deref.result.now c.in-Some.i x c.deref.ensures.value c.in-Some.ensures.inside c.remove-slot.ensures.value) c.remove-slot.ensures.items c.put_back.ensures
+    let i = c.in-Some.i in
+    let x = c.swap_remove-slot.result in
+    let y = c.execute_at-slot.result.0 in
+    let k = taken_out xs c.deref.result.now i x c.deref.ensures.value c.in-Some.ensures.inside c.swap_remove-slot.ensures.value in
+    length_back xs c.put_back_swapped.new.slots.items i y (swapped_back_is xs c.swap_remove-slot.new.self.items c.put_back_swapped.new.slots.items i x y k c.swap_remove-slot.ensures.items c.put_back_swapped.ensures)

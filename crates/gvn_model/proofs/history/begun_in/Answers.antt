@@ -2,9 +2,9 @@ use Rattle.std.proofs.Common.{◌≡◌, Bool, List, ◌++◌, ◌∷◌, [], �
 use Rattle.std.proofs.lemmas.Bool.Decides.{nat_tests}
 use Rattle.global_defs.specs.Entry.{Reign}
 use Rattle.gvn_model.specs.Reigns.{reign_value}
-use Rattle.site_making.proofs.Histories.{kept_more}
-use Rattle.site_making.proofs.history.reigns_by.Goals as goal
-use Rattle.site_making.proofs.history.reigns_by.Goals.{then-reign-number+in_ok-copy+in_ok-push, else-reign-number}
+use Rattle.gvn_model.proofs.Begun.{kept_more}
+use Rattle.gvn_model.proofs.history.begun_in.Goals as goal
+use Rattle.gvn_model.proofs.history.begun_in.Goals.{then-reign-number+in_ok-copy+in_ok-push, else-reign-number}
 
 pub loop-reign-preserved : goal.loop-reign-preserved
 loop-reign-preserved c =

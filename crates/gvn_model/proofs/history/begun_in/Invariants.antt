@@ -1,6 +1,6 @@
 use Rattle.std.proofs.Common.{◌≡◌, take, map, filter, nat_le}
 use Rattle.gvn_model.specs.Reigns.{reign_value}
-use Rattle.instance_file.proofs.following.begun_by.Given as goal
+use Rattle.gvn_model.proofs.history.begun_in.Given as goal
 
 -- those of the first reigns
 abbrev pub invariant-loop-reign : goal.invariant-loop-reign
