@@ -74,7 +74,7 @@ state_past us e file b undoes far inside =
     let none : e.blocks ≡ 0 = omega (arith, far, inside, undoes.blocks) in
     first_zeros e.blocks b (Some (unwrap_or (image_of e.after b) (file b))) (Some (replicate 4096 0)) none first
 
-state_inside : (e : Chosen) (file : Blocks) (b : ℕ) → b < e.blocks → image_state e file b ≡ Some (unwrap_or (image_of e.after b) (file b))
+pub state_inside : (e : Chosen) (file : Blocks) (b : ℕ) → b < e.blocks → image_state e file b ≡ Some (unwrap_or (image_of e.after b) (file b))
 state_inside e file b inside = grind (arith, nat_tests)
 
 pub state_known : (us : Oldest) (e : Chosen) (file : Blocks) (b : ℕ) → Undoes us e → b < length us → image_state e file b ≡ Some (unwrap_or (oldest_of us b) (file b))

@@ -8,19 +8,15 @@ use Rattle.journal_defs.specs.Journal.{JournalRecord, Pini, Epoch, Pblk, Tcom, B
 use Rattle.journal_defs.specs.Instance.{InstanceRecord, Create, Reigned, Cut, Map, Mode, generation, regions}
 use Rattle.journal_defs.specs.Surviving.{survives}
 use Rattle.journal_defs.specs.Sequence.{Placed}
-use Rattle.journal_defs.specs.Epochs.{Blocks, Chosen, epoch_in, chosen, image_of, starts_without, is_without, first_without, NeedsForward}
+use Rattle.journal_defs.specs.Epochs.{Blocks, Chosen, chosen, image_of, starts_without, is_without, first_without, NeedsForward}
 use Rattle.journal_defs.specs.Undo.{MayWrite, MayLog, MayAppend, logged}
 use Rattle.journal_defs.specs.Sound.{IsSoundRegion, BlocksGrow, NoEpochPast}
 use Rattle.journal_laws.proofs.EveryTarget as every
 use Rattle.journal_laws.proofs.Targets as targets
-use Rattle.journal_laws.proofs.Images.{image_of-append}
+use Rattle.journal_laws.proofs.Images.{image_of-append, some_or, or_some as or_right}
 use Rattle.journal_laws.proofs.ImageSteps.{all_take}
 use Rattle.block_laws.specs.Several.{MayAppendAll, logged_all}
-
--- a record that may be appended still may behind another
-some_or : (o p : Option (List ℕ)) → IsSome o → IsSome (option_or o p)
-some_or None p h = cc
-some_or (Some i) p h = refl
+use Rattle.journal_laws.proofs.EveryTarget.{eq_self, is_other}
 
 write_more : (e : Chosen) (p : Placed) (b : ℕ) → MayWrite e b → MayWrite (logged e p) b
 write_more e p b (inl far) = inl far
@@ -39,12 +35,6 @@ append_more e p database (Tcom x) may = tt
 all_more : (e : Chosen) (p : Placed) (database : Blocks) (ps : List Placed) → MayAppendAll e database ps → MayAppendAll (logged e p) database ps
 all_more e p database [] all = tt
 all_more e p database (q ∷ qs) all = (append_more e p database q.what all.0, all_more e p database qs all.1)
-
-is_other : (instance : List InstanceRecord) (t g : ℕ) (e : Chosen) (database : Blocks) (what : JournalRecord) → MayAppend e database what → epoch_in instance t g what [] ≡ None
-is_other instance t g e database (Pblk i) may = refl
-is_other instance t g e database (Epoch m) may = absurd may
-is_other instance t g e database (Pini s) may = refl
-is_other instance t g e database (Tcom p) may = refl
 
 chosen_one : (instance : List InstanceRecord) (t : ℕ) (journal : List Placed) (e : Chosen) (database : Blocks) (p : Placed) → MayAppend e database p.what
     → chosen instance t (journal ++ p ∷ []) ≡ logged (chosen instance t journal) p
@@ -103,7 +93,7 @@ survives_newest (Map region star name ∷ rs) g n low = survives_newest rs g n l
 survives_newest (Mode region before ∷ rs) g n low = survives_newest rs g n low
 
 -- no generation without images
-and_false : (a b : Bool) → b ≡ false → (a && b) ≡ false
+pub and_false : (a b : Bool) → b ≡ false → (a && b) ≡ false
 and_false true b h = h
 and_false false b h = refl
 
@@ -126,18 +116,11 @@ none_without instance t journal all needs =
 pub may_take : (e : Chosen) (database : Blocks) (k : ℕ) (ps : List Placed) → MayAppendAll e database ps → MayAppendAll e database (take k ps)
 may_take e database k ps all = all_take (λ p. MayAppend e database p.what) k ps all
 
-or_right : (o p : Option (List ℕ)) → IsSome p → IsSome (option_or o p)
-or_right None p h = h
-or_right (Some i) p h = refl
-
 pub image_stays : (ps qs : List Placed) (b : ℕ) → IsSome (image_of ps b) → IsSome (image_of (ps ++ qs) b)
 image_stays ps qs b has = subst (λ (o : Option (List ℕ)). IsSome o) (sym (image_of-append ps qs b)) (some_or (image_of ps b) (image_of qs b) has)
 
 image_behind : (ps qs : List Placed) (b : ℕ) → IsSome (image_of qs b) → IsSome (image_of (ps ++ qs) b)
 image_behind ps qs b has = subst (λ (o : Option (List ℕ)). IsSome o) (sym (image_of-append ps qs b)) (or_right (image_of ps b) (image_of qs b) has)
-
-eq_self : (n : ℕ) → (n == n) ≡ true
-eq_self n = grind (arith, nat_tests)
 
 pub image_there : (ps : List Placed) (g : ℕ) (i : Before) → IsSome (image_of (ps ++ record { generation = g; what = Pblk i } ∷ []) i.block)
 image_there ps g i = image_behind ps (record { generation = g; what = Pblk i } ∷ []) i.block

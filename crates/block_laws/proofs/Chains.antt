@@ -157,16 +157,16 @@ nodes_one (e ∷ es) (f ∷ fs) p q h =
 pub cells_one : (g h : Globals) → HaveKeys g → HaveKeys h → cells_of g ≡ cells_of h → g ≡ h
 cells_one g h p q same = globals.same_entries_map g h (nodes_one (globals.entries g) (globals.entries h) p q same)
 
-less_of : (o : Ordering) → T (is_lt o) → o ≡ Less
+pub less_of : (o : Ordering) → T (is_lt o) → o ≡ Less
 less_of Less h = refl
 less_of Equal h = absurd h
 less_of Greater h = absurd h
 
-first_T : (a b : Bool) → T (a && b) → T a
+pub first_T : (a b : Bool) → T (a && b) → T a
 first_T true b h = tt
 first_T false b h = absurd h
 
-second_T : (a b : Bool) → T (a && b) → T b
+pub second_T : (a b : Bool) → T (a && b) → T b
 second_T true b h = h
 second_T false b h = absurd h
 

@@ -16,6 +16,7 @@ use Rattle.global_defs.proofs.KeyOrder.{key_ordered}
 use Rattle.journal_defs.specs.Leaves.{Cell, Leaf, IsCell, StandsAt, IsChain, HaveCells, KeysRise, Decodes, cells_of}
 use Rattle.journal_laws.proofs.ImageSteps.{all_both}
 use Rattle.block_laws.specs.Nodes.{HaveKeys, HaveShortValues}
+use Rattle.block_laws.proofs.Chains.{first_T, second_T, less_of}
 
 -- one step of the walk along a chain
 abbrev Walks : (ℕ → Option (List ℕ)) → ℕ → List Leaf → Type 0
@@ -51,23 +52,10 @@ both_T : (a b : Bool) → T a → T b → T (a && b)
 both_T true b p q = q
 both_T false b p q = absurd p
 
-first_T : (a b : Bool) → T (a && b) → T a
-first_T true b h = tt
-first_T false b h = absurd h
-
-second_T : (a b : Bool) → T (a && b) → T b
-second_T true b h = h
-second_T false b h = absurd h
-
 less_T : (o : Ordering) → o ≡ Less → T (is_lt o)
 less_T Less h = tt
 less_T Equal h = cc
 less_T Greater h = cc
-
-less_of : (o : Ordering) → T (is_lt o) → o ≡ Less
-less_of Less h = refl
-less_of Equal h = absurd h
-less_of Greater h = absurd h
 
 below_more : (x y : Key) (es : Nodes) → key_cmp x y ≡ Less → T (lists.below_all key_cmp y es) → T (lists.below_all key_cmp x es)
 below_more x y [] low h = tt

@@ -2,8 +2,6 @@
 use Rattle.std.proofs.Common.{◌≡◌, inl, inr, ℕ, Bool, true, false, cond, List, [], ◌∷◌, filter, fold, Option, Some, None, refl, sym, ◌∙◌, ap}
 use Rattle.std.specs.Prelude.{not}
 use Rattle.std.proofs.lemmas.Bool.{cases_Bool, and_parts}
-use Rattle.std.specs.declared.cmp.Ordering.{Ordering}
-use Rattle.std.specs.declared.cmp.Ordering.TheVariants.{Less, Equal, Greater}
 use Rattle.std.specs.Ordering.{eq_by_cmp, is_eq, nat_cmp}
 use Rattle.std.specs.Cmp.Lexicographic.{slice_cmp}
 use Rattle.std.specs.List.{starts_with}
@@ -13,14 +11,10 @@ use Rattle.global_defs.specs.Key.{Key, key_cmp, sub_cmp}
 use Rattle.global_defs.specs.Entry.{Globals, Update, Set, Kill, ZKill, apply, is_under}
 use Rattle.global_defs.proofs.Order.{key_total, key_same}
 use Rattle.journal_defs.specs.Fit.{key_of}
+use Rattle.global_defs.proofs.KeyOrder.{is_equal}
 
 pub get_kept : (g : Globals) (p : Key → Bool) (q : Key) → globals.get (globals.retain_keys g p) q ≡ cond (p q) (globals.get g q) None
 get_kept g p q = globals.get-retain_keys g p q (λ x e. ap p (sym (key_same q x e)))
-
-is_equal : (o : Ordering) → is_eq o ≡ true → o ≡ Equal
-is_equal Less h = cc
-is_equal Equal h = refl
-is_equal Greater h = cc
 
 -- whether an update changes the value at a key, and to what
 abbrev touches : Update → Key → Bool

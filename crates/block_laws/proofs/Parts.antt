@@ -24,6 +24,8 @@ use Rattle.journal_defs.specs.Sound.{region_state}
 use Rattle.journal_laws.proofs.Regions as regions
 use Rattle.block_laws.specs.Nodes.{HaveKeys, HaveShortValues, updates_of, updates_in, sum_below}
 use Rattle.block_laws.proofs.Kept.{get_kept, kept_all, entries_kept, remove_is}
+use Rattle.journal_laws.proofs.EveryTarget.{eq_self}
+use Rattle.journal_laws.proofs.ImageSteps.{all_both as all_append}
 
 nothing_left : (b : Bool) → ◌≡◌ {A = Option (List ℕ)} (cond b None None) None
 nothing_left true = refl
@@ -53,9 +55,6 @@ items_from ps r i (u ∷ us) = elim (cases_Bool (region_of_update ps u == r)) [
 
 pub items : (ps : List Pattern) (r : ℕ) (us : List Update) → map (λ (i : Item). i.update) (items_for (region_of_update ps) r us) ≡ updates_in ps r us
 items ps r us = items_from ps r 0 us
-
-eq_self : (n : ℕ) → (n == n) ≡ true
-eq_self n = grind (arith, nat_tests)
 
 eq_not : (a b : ℕ) → a ≢ b → (a == b) ≡ false
 eq_not a b h = grind (arith, nat_tests)
@@ -156,10 +155,6 @@ nodes_step g (ZKill key) form all = subst HaveNodes (sym (remove_is g key)) (nod
 nodes_all : (us : List Update) (g : Globals) → AllByRecursion IsUpdate us → HaveNodes g → HaveNodes (fold apply g us)
 nodes_all [] g forms all = all
 nodes_all (u ∷ us) g forms all = nodes_all us (apply g u) forms.1 (nodes_step g u forms.0 all)
-
-all_append : {X : Type 0} (P : X → Type 0) (xs ys : List X) → AllByRecursion P xs → AllByRecursion P ys → AllByRecursion P (xs ++ ys)
-all_append P [] ys h k = k
-all_append P (x ∷ xs) ys h k = (h.0, all_append P xs ys h.1 k)
 
 updates_form : (seq : Sequence) → AllByRecursion (λ e. IsTransaction e.transaction) seq → AllByRecursion IsUpdate (flat_map (λ (e : Entry). e.transaction.updates) seq)
 updates_form [] all = tt

@@ -28,7 +28,7 @@ all_of gs = flat_map (λ (g : Globals). globals.entries g) gs
 find-first : (q : Key) (g : Globals) (gs : List Globals) → globals.find key_cmp q (all_of (g ∷ gs)) ≡ option_or (globals.get g q) (globals.find key_cmp q (all_of gs))
 find-first q g gs = find-both q (globals.entries g) (all_of gs) ∙ ap (λ (o : Option (List ℕ)). option_or o (globals.find key_cmp q (all_of gs))) (sym (globals.get-entries g q))
 
-or_none : {X : Type 0} (o : Option X) → option_or o None ≡ o
+pub or_none : {X : Type 0} (o : Option X) → option_or o None ≡ o
 or_none None = refl
 or_none (Some x) = refl
 

@@ -1,5 +1,5 @@
 -- The numbers of marks that are set.
-use Rattle.std.proofs.Common.{◌≡◌, ℕ, zero, suc, ◌+◌, ◌≤◌, ◌<◌, Bool, true, false, List, [], ◌∷◌, ◌++◌, length, take, drop, get_or, slice_set, replicate, refl, sym, ◌∙◌, ap, subst, arith, add-one}
+use Rattle.std.proofs.Common.{◌≡◌, ℕ, zero, suc, ◌+◌, ◌≤◌, ◌<◌, Bool, true, false, List, [], ◌∷◌, ◌++◌, length, drop, get_or, slice_set, replicate, refl, sym, ◌∙◌, ap, subst, arith}
 use Rattle.std.specs.Prelude.{◌-◌, Ok, Err, if◌then◌else◌}
 use Rattle.std.specs.Ordering.{nat_cmp}
 use Rattle.std.specs.List.{insert}
@@ -43,12 +43,6 @@ rising k (true ∷ ds) (suc i) (suc j) le low = rising (suc k) ds i j (omega (ar
 rising k (false ∷ ds) i j le low = rising (suc k) ds i j le low
 
 -- ---- a mark is set, or all are taken away
-
--- a mark that is set already
-pub set-again : (ds : List Bool) (b : ℕ) → b < length ds → get_or ds b false ≡ true → slice_set ds b true ≡ ds
-set-again [] b low is = absurd (omega (arith, low))
-set-again (d ∷ ds) zero low is = ap (λ (c : Bool). c ∷ ds) (sym is)
-set-again (d ∷ ds) (suc b) low is = ap (λ (cs : List Bool). d ∷ cs) (set-again ds b (omega (arith, low)) is)
 
 -- a number that isn't there comes to the place where it belongs
 pub inserted : (k : ℕ) (ds : List Bool) (b i x : ℕ) → x ≡ k + b → b < length ds → i ≤ length (numbers_from k ds)

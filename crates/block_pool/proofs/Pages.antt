@@ -1,5 +1,5 @@
 -- Pages after one of them changed.
-use Rattle.std.proofs.Common.{◌≡◌, ℕ, Bool, true, List, length, take, drop, replicate, ◌++◌, ◌∷◌, [], map, min, ◌<◌, sym, refl, ◌∙◌, ap, arith, false, get_or, slice_set, ◌+◌, ◌≤◌, length-append}
+use Rattle.std.proofs.Common.{◌≡◌, ℕ, Bool, true, List, length, drop, replicate, ◌++◌, ◌∷◌, [], map, min, ◌<◌, sym, refl, ◌∙◌, ap, arith, false, get_or, slice_set, ◌+◌, ◌≤◌, length-append}
 use Rattle.std.proofs.lemmas.List.{map-append, map-set, length-set, get_or-map, length-map, drop_more, drop_all}
 use Rattle.std.proofs.Math.Seq.{map-set_same}
 use Rattle.std.specs.Prelude.{◌-◌, vec_len, vec_capacity, if◌then◌else◌}
@@ -7,7 +7,7 @@ use Rattle.std.specs.Vec.{with_item}
 use Rattle.block_pool.specs.declared.pool.Page.{Page}
 use Rattle.block_pool.specs.declared.pool.BlockPool.TheInside.{Inside}
 use Rattle.block_pool.specs.Code.{Pool}
-use Rattle.block_pool.specs.Pool.{leaf_at, is_dirty, numbers_from, count_set, dirty_from, marked, changed, IsAdded}
+use Rattle.block_pool.specs.Pool.{leaf_at, is_dirty, numbers_from, count_set, dirty_from, marked, changed}
 use Rattle.block_fmt.specs.Cells.{blank}
 use Rattle.block_pool.specs.Inside.{pool_of, IsPool}
 use Rattle.block_pool.proofs.Numbers.{count-numbers, few-set, fewer-set, numbers-last, first-cleared, none-set, numbers_none, next_of}
@@ -132,15 +132,6 @@ pool_same p made items room = λ i. record {
   leaves = map (λ (r : Page). r.block) (items i);
   dirty = map (λ (r : Page). r.dirty) (items i);
   room = room i;
-}
-
--- a page more
-pub added_is : (p made : Inside) (q : Page) → made.pages.items ≡ p.pages.items ++ q ∷ [] → vec_capacity p.pages ≤ vec_capacity made.pages → vec_capacity p.changed ≤ vec_capacity made.changed
-    → IsAdded (pool_of p) (pool_of made) q.block q.dirty
-added_is p made q items capacity seats = record {
-  leaves = ap (map (λ (r : Page). r.block)) items ∙ map-append (λ (r : Page). r.block) p.pages.items (q ∷ []);
-  dirty = ap (map (λ (r : Page). r.dirty)) items ∙ map-append (λ (r : Page). r.dirty) p.pages.items (q ∷ []);
-  room = omega (arith, capacity, seats, ap length items, length-append p.pages.items (q ∷ []));
 }
 
 pub added_listed : (p made : Inside) (q : Page) (x : ℕ) → IsPool p → x ≡ length p.pages.items → length made.pages.items < 4294967296 → made.pages.items ≡ p.pages.items ++ q ∷ []

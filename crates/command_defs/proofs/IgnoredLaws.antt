@@ -19,7 +19,8 @@ use Rattle.command_defs.specs.Spelling.{IsEnded, IsIgnored, empty, comment}
 use Rattle.command_defs.proofs.LineEnds.{trimmed_found, trimmed_only, trimmed_tight}
 use Rattle.command_defs.proofs.Joined.{tight_none, front_spaces, spaces_gone}
 use Rattle.command_defs.proofs.LineLaws.{left_of, line_found}
-use Rattle.command_defs.proofs.Taken.{behind, chosen}
+use Rattle.command_defs.proofs.Taken.{behind}
+use Rattle.gvn_key.proofs.KeyTextFound.{chosen}
 
 ending_skips : (r : Result Command ℕ) → ending r ≡ Skips → ⊥
 ending_skips (Ok c) e = cc

@@ -14,8 +14,9 @@ use Rattle.command_defs.specs.Script.{Position, Outside, Within, Reading, Skips,
 use Rattle.command_defs.specs.Spelling.{IsEnded, Joins, IsLineOf, SpellsCommand, BeginsSection}
 use Rattle.command_defs.proofs.LineEnds.{trimmed_found, trimmed_only, trimmed_tight}
 use Rattle.command_defs.proofs.Joined.{IsTight, IsFronted, tight_drop, tight_without, fronted_without, front_spaces, spaces_gone, joins, joins_fronted, begins}
-use Rattle.command_defs.proofs.Taken.{behind, chosen}
+use Rattle.command_defs.proofs.Taken.{behind}
 use Rattle.command_defs.proofs.Orders.{command_found, run_found, run_read, order_told}
+use Rattle.gvn_key.proofs.KeyTextFound.{chosen}
 
 -- what is left of a line behind the spaces at its front
 abbrev pub left_of : List ℕ → List ℕ

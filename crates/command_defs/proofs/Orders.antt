@@ -19,8 +19,9 @@ use Rattle.command_defs.proofs.Joined.{IsTight, IsFronted, begins}
 use Rattle.command_defs.proofs.NumberForms.{number_read}
 use Rattle.command_defs.proofs.Patterns.{pattern_read}
 use Rattle.command_defs.proofs.Regions.{names_of, distinct_one}
-use Rattle.command_defs.proofs.Taken.{behind, chosen, followed_found, Takes, ended_found, name_taken, word_is, word_taken, spelled_taken, file_is, mode_is, way_word, way_is, number_taken, node_taken, at_end, pattern_taken, Perhaps, missing, there, perhaps_found, taken_read, next, ended_read, word_read, file_read, mode_read, node_read, perhaps_read, perhaps_none, followed_read, site_read, figure_read}
+use Rattle.command_defs.proofs.Taken.{behind, followed_found, Takes, ended_found, name_taken, word_is, word_taken, spelled_taken, file_is, mode_is, way_word, way_is, number_taken, node_taken, at_end, pattern_taken, Perhaps, missing, there, perhaps_found, taken_read, next, ended_read, word_read, file_read, mode_read, node_read, perhaps_read, perhaps_none, followed_read, site_read, figure_read}
 use Rattle.command_defs.proofs.RegionOrders.{Named, region_taken, region_read, regions_found, regions_read}
+use Rattle.gvn_key.proofs.KeyTextFound.{chosen}
 
 -- parts behind a word that make a command with it
 record Makes (word left : List ℕ) (command : Command) : Type 0 where

@@ -11,7 +11,7 @@ use Rattle.global_defs.specs.Valid.{is_name}
 use Rattle.global_defs.specs.Pattern.{is_global_name, ends_in_star, stem, is_pattern}
 use Rattle.command_defs.specs.Commands.{IsPattern, exact, starred}
 
-split_last : (text : List ℕ) → 1 ≤ length text → text ≡ take (length text - 1) text ++ get_or text (length text - 1) 0 ∷ []
+pub split_last : (text : List ℕ) → 1 ≤ length text → text ≡ take (length text - 1) text ++ get_or text (length text - 1) 0 ∷ []
 split_last text h = let n = length text - 1 in
     sym (take_all (n + 1) text (omega arith)) ∙ take_more text n 0 (omega arith)
 

@@ -9,8 +9,9 @@ use Rattle.script_defs.specs.Parts.{word_end}
 use Rattle.command_defs.specs.Commands.{Region, region_form, MOST_REGIONS, regions_behind, regions_reading}
 use Rattle.command_defs.specs.Parts.{column, followed, taken, ended, is_name}
 use Rattle.command_defs.proofs.Regions.{names_of, distinct_one, regions_more}
-use Rattle.command_defs.proofs.Taken.{chosen, followed_found, taken_form, ended_found}
+use Rattle.command_defs.proofs.Taken.{followed_found, taken_form, ended_found}
 use Rattle.command_defs.proofs.RegionOrders.{region_is}
+use Rattle.gvn_key.proofs.KeyTextFound.{chosen}
 
 -- regions of different names, these and so many more at most
 record Kept (before : List Region) (room : ℕ) (regions : List Region) : Type 0 where

@@ -12,7 +12,8 @@ use Rattle.command_defs.specs.Parts.{followed, taken, is_name}
 use Rattle.command_defs.specs.Spelling.{Joins}
 use Rattle.command_defs.proofs.Joined.{IsTight, IsFronted, begins, begins_none}
 use Rattle.command_defs.proofs.Regions.{names_of, regions_more, regions_apart, word_named, named_word}
-use Rattle.command_defs.proofs.Taken.{behind, chosen, followed_found, none_left, Takes, taken_found, ended_found, at_end, taken_read, next, ended_read, followed_read}
+use Rattle.command_defs.proofs.Taken.{behind, followed_found, none_left, Takes, taken_found, ended_found, at_end, taken_read, next, ended_read, followed_read}
+use Rattle.gvn_key.proofs.KeyTextFound.{chosen}
 
 pub region_is : (before : List Region) (text : List ℕ) (r : Region) → region_form before text ≡ Some r → (text ≡ region_word r) × (is_name r.name ≡ true) × (list_any (λ x. bytes_eq x.name r.name) before ≡ false)
 region_is before text r e =

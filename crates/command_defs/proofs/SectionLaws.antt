@@ -24,11 +24,12 @@ use Rattle.command_defs.specs.Script.{Position, Within, Reading, Wrong, Goes, En
 use Rattle.command_defs.specs.Spelling.{IsEnded, IsPart, stops_quoted, Joins, IsLineOf, IsStatementLine, HasRoom, Continues, begins, commits, states, EndsSection}
 use Rattle.command_defs.proofs.LineEnds.{trimmed_found, trimmed_only}
 use Rattle.command_defs.proofs.Joined as joined
-use Rattle.command_defs.proofs.Joined.{IsTight, IsFronted, Cuts, cuts, parted, part_fronted, fronted_without, spaces_gone, front_spaces}
+use Rattle.command_defs.proofs.Joined.{IsFronted, Cuts, cuts, parted, part_fronted, spaces_gone, front_spaces}
 use Rattle.command_defs.proofs.NumberForms.{digits_known, number_read}
 use Rattle.command_defs.proofs.UpdateWords.{update_word}
 use Rattle.command_defs.proofs.LineLaws.{left_of, left_tight, left_fronted, line_found, text_found, ending_found, ending_goes, line_of, line_read, text_read}
-use Rattle.command_defs.proofs.Taken.{behind, chosen, Takes, ended_found, number_taken, number_at, at_end, ended_read}
+use Rattle.command_defs.proofs.Taken.{behind, Takes, ended_found, number_taken, number_at, at_end, ended_read}
+use Rattle.gvn_key.proofs.KeyTextFound.{chosen}
 
 -- From a reading to what is spelled.
 

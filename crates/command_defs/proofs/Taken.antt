@@ -1,6 +1,6 @@
 -- Parts that are taken from the front of what is left, in both directions.
 use Rattle.std.specs.Prelude.{if◌then◌else◌}
-use Rattle.std.proofs.Common.{◌≡◌, ◌⊎◌, ℕ, ◌<◌, ◌≤◌, ◌^◌, ◌==◌, Bool, true, false, List, [], ◌∷◌, length, take, drop, Option, Some, None, codes, cond, refl, sym, ap, ◌∙◌, subst, inl, inr, arith}
+use Rattle.std.proofs.Common.{◌≡◌, ℕ, ◌<◌, ◌≤◌, ◌^◌, ◌==◌, Bool, true, false, List, [], ◌∷◌, length, take, drop, Option, Some, None, codes, refl, sym, ap, ◌∙◌, subst, inl, inr, arith}
 use Rattle.std.specs.Fmt.{decimal}
 use Rattle.std.specs.Str.{bytes_eq}
 use Rattle.std.specs.declared.result.Result.{Result}
@@ -20,17 +20,13 @@ use Rattle.command_defs.specs.Spelling.{Joins, nothing}
 use Rattle.command_defs.proofs.Joined.{IsTight, IsFronted, tight_drop, tight_without, fronted_without, joins, begins, begins_none}
 use Rattle.command_defs.proofs.NumberForms.{number_found, number_read}
 use Rattle.command_defs.proofs.Patterns.{pattern_found}
+use Rattle.gvn_key.proofs.KeyTextFound.{chosen}
 
 -- what stands behind the first part and the spaces
 abbrev pub behind : List ℕ → List ℕ
 behind left = without_spaces (drop (word_end left) left)
 
 -- From a reading to parts.
-
--- which way a test went
-pub chosen : {A : Type 0} (b : Bool) (x y z : A) → cond b x y ≡ z → ((b ≡ true) × (x ≡ z)) ⊎ ((b ≡ false) × (y ≡ z))
-chosen true x y z e = inl (refl, e)
-chosen false x y z e = inr (refl, e)
 
 pub followed_found : {X Y : Type 0} (r : Result X ℕ) (next : X → Result Y ℕ) (y : Y) → followed r next ≡ Ok y → (x : X) × (r ≡ Ok x) × (next x ≡ Ok y)
 followed_found (Ok x) next y e = (x, refl, e)

@@ -86,7 +86,7 @@ length-spelled_with (g ∷ gates) (body ∷ bodies) same = omega (arith, length-
 length-opened : (sure : List Body) (gates : List ℕ) (more : List Body) (rest : List ℕ) → length (opened sure gates more rest) ≡ length (spelled 1 sure) + (length (spelled_with gates more) + length rest)
 length-opened sure gates more rest = omega (arith, length-append (spelled 1 sure) (spelled_with gates more ++ rest), length-append (spelled_with gates more) rest)
 
-records_short : (file : List ℕ) → length file < 2 → records file ≡ Some []
+pub records_short : (file : List ℕ) → length file < 2 → records file ≡ Some []
 records_short file short = grind (arith, nat_tests)
 
 records_long : (file : List ℕ) (n : ℕ) → 2 ≤ length file → n ≡ length file → records file ≡ bodies_within n file
@@ -123,15 +123,3 @@ stands sure gates more gate rest same all_sure all_more shut = elim (cases_lt (l
 pub stands_more : (sure more others : List Body) (bytes : List ℕ) → Stands sure more bytes → Stands sure (more ++ others) bytes
 stands_more sure more others bytes h =
     (h.0, omega (arith, h.1, length-append more others), h.2 ∙ ap (λ (l : List Body). Some (sure ++ l)) (sym (take-append-le h.0 more others h.1)))
-
--- fewer are known to be there
-pub stands_fewer : (sure more others : List Body) (bytes : List ℕ) → Stands (sure ++ more) others bytes → Stands sure (more ++ others) bytes
-stands_fewer sure more others bytes h = (
-  length more + h.0,
-  omega (arith, h.1, length-append more others),
-  h.2 ∙ ap (λ (l : List Body). Some l) (append_assoc sure more (take h.0 others) ∙ ap (λ (l : List Body). sure ++ l) (sym (take_past more others h.0))),
-)
-  where
-    take_past : (xs ys : List Body) (n : ℕ) → take (length xs + n) (xs ++ ys) ≡ xs ++ take n ys
-    take_past [] ys n = let same : 0 + n ≡ n = omega arith in ap (λ (k : ℕ). take k ys) same
-    take_past (x ∷ xs) ys n = let same : suc (length xs) + n ≡ suc (length xs + n) = omega arith in ap (λ (k : ℕ). take k (x ∷ (xs ++ ys))) same ∙ ap (λ (l : List Body). x ∷ l) (take_past xs ys n)

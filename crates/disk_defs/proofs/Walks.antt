@@ -48,7 +48,7 @@ enough (suc m) (suc n) bytes low high = at_gate (gate_of bytes) (λ body rest is
 pub from_start : (file : List ℕ) → bodies_at file 0 ≡ records file
 from_start file = refl
 
-short_shut : (file : List ℕ) (at : ℕ) → length file < 2 → gate_at file at ≡ Shut
+pub short_shut : (file : List ℕ) (at : ℕ) → length file < 2 → gate_at file at ≡ Shut
 short_shut file at short = grind (arith, nat_tests)
 
 short_none : (file : List ℕ) (at : ℕ) → length file < 2 → bodies_at file at ≡ Some []

@@ -1,6 +1,5 @@
 -- Entries that have one part.
-use Rattle.std.proofs.Common.{◌≡◌, ℕ, zero, suc, ◌^◌, ◌<◌, ◌==◌, ◌&&◌, ◌||◌, not, Bool, true, List, Option, Some, IsSome, refl, sym, ◌∙◌, ap, subst, arith}
-use Rattle.std.proofs.lemmas.Bool.Decides.{nat_tests}
+use Rattle.std.proofs.Common.{◌≡◌, ℕ, zero, suc, ◌^◌, ◌<◌, ◌&&◌, ◌||◌, not, Bool, true, List, Option, Some, IsSome, refl, sym, ◌∙◌, ap, subst, arith}
 use Rattle.std.proofs.lemmas.List.{append-nil}
 use Rattle.std.specs.List.{list_all}
 use Rattle.journal_defs.specs.Journal.{Item, Part}
@@ -8,9 +7,7 @@ use Rattle.journal_defs.specs.Sequence.{REGIONS, in_mask, is_like, items_of, ite
 use Rattle.mupip_recover.specs.Slots.{next_after, is_at}
 use Rattle.mupip_recover.proofs.Completion.{by_agreement}
 use Rattle.mupip_recover.proofs.InOrder.{by_order}
-
-itself : (n : ℕ) → (n == n) ≡ true
-itself n = grind (arith, nat_tests)
+use Rattle.journal_laws.proofs.EveryTarget.{eq_self as itself}
 
 likes_itself : (p : Part) → is_like p (Some p) ≡ true
 likes_itself p =

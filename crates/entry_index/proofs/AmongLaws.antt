@@ -92,7 +92,7 @@ pub whole_rows : (index : EntryIndex) (n : ℕ) → 1 ≤ index.regions → leng
 whole_rows index n some rows = rows ∙ ap (λ (k : ℕ). index.regions * k) (sym (counted index n some rows))
 
 -- the sign that tells a part's place
-chosen : (b : Bool) (o : Option PartSign) (s : PartSign) → (if b then o else None) ≡ Some s → o ≡ Some s
+pub chosen : (b : Bool) (o : Option PartSign) (s : PartSign) → (if b then o else None) ≡ Some s → o ≡ Some s
 chosen true o s is = is
 chosen false o s is = absurd (cc is)
 
@@ -141,7 +141,7 @@ record_at files r (x ∷ signs) [] k s all there = absurd all
 record_at files r (x ∷ signs) (q ∷ js) zero s all there = let same : x ≡ s = cc there in (q, refl, subst (λ (t : PlacedSign). IsSignOf files r t q) same all.0)
 record_at files r (x ∷ signs) (q ∷ js) (suc k) s all there = record_at files r signs js k s all.1 there
 
-placed_is : (q : Placed) (g : ℕ) (x : JournalRecord) → q.generation ≡ g → q.what ≡ x → q ≡ record { generation = g; what = x }
+pub placed_is : (q : Placed) (g : ℕ) (x : JournalRecord) → q.generation ≡ g → q.what ≡ x → q ≡ record { generation = g; what = x }
 placed_is q g x drawn what = ap (λ (h : ℕ). record { generation = h; what = q.what }) drawn ∙ ap (λ (y : JournalRecord). record { generation = g; what = y }) what
 
 -- an index by signs, which have the places of these records

@@ -31,16 +31,6 @@ use Rattle.entry_index.proofs.IndexLaws.{first_rows, row_more}
 use Rattle.entry_index.proofs.Readers.{at_end}
 use Rattle.entry_index.proofs.SideBySide.{some_in, row_of, row_signed, row_among, none_past}
 
--- before all entries
-pub built_none : (files : Files) (s : Records) (index : EntryIndex) → length index.places.items ≡ 0 → IsBuilt files s index 0
-built_none files s index none = record {
-  seq = [];
-  long = refl;
-  each = tt;
-  indexed = record { rows = omega (arith, none); each = λ n e h. cc };
-  among = record { rows = omega (arith, none); each = λ n e h. cc };
-}
-
 -- one entry more
 pub built_more : (files : Files) (s : Records) (index made : EntryIndex) (n : ℕ) (places : List PartPlace) → made.regions ≡ index.regions → IsNext files (reigns s.instance) (n + 1) (parts s (n + 1)) true index.places.items made.places.items
     → made.places.items ≡ index.places.items ++ places → length places ≡ index.regions → AreParts (InJournals s.journal) (n + 1) places (parts s (n + 1)) → IsBuilt files s index n → IsBuilt files s made (n + 1)

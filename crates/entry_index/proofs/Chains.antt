@@ -1,10 +1,6 @@
 -- Fields that are read one after the other.
-use Rattle.std.proofs.Common.{◌≡◌, ℕ, List, ◌∷◌, ◌++◌, Option, Some, None, ap, sym, ◌∙◌, subst, append_assoc}
+use Rattle.std.proofs.Common.{◌≡◌, ℕ, List, ◌++◌, Option, Some, None, ap, sym, ◌∙◌, subst, append_assoc}
 use Rattle.entry_index.specs.Fields.{Field, Reads, Skips, then, and}
-
--- what stands behind a first byte
-pub tail : {x y : ℕ} {xs ys : List ℕ} → x ∷ xs ≡ y ∷ ys → xs ≡ ys
-tail e = cc
 
 module _ {X Y : Type 0} (f : Field X) (g : X → Field Y) where
   pub front_then : (bytes : List ℕ) → Reads f bytes None → Reads (then f g) bytes None

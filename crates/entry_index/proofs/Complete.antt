@@ -28,6 +28,7 @@ use Rattle.entry_index.specs.Signs.{Tells, IsSign}
 use Rattle.entry_index.specs.Completing.{is_like_some, agrees_by_sign, NO_SPAN, span_told, span_at, place_told, IsTold, Decides, IsAlone}
 use Rattle.entry_index.specs.Indexes.{IsNext}
 use Rattle.entry_index.proofs.Alone.{one_part}
+use Rattle.entry_index.proofs.Cursors.{no_head}
 
 -- items in a row
 pub row_end : (i : ℕ) (items : List Item) → next_after i items ≡ (if is_row i items then Some (i + length items) else None)
@@ -46,10 +47,6 @@ span_end next items s is row first =
     let in_row : is_row next items ≡ true = subst (λ (k : ℕ). is_row k items ≡ true) start (sym (ap (λ (x : Span). x.in_a_row) is) ∙ row) in
     let many : length items ≡ s.many = sym (ap (λ (x : Span). x.many) is) in
     row_end next items ∙ ap (λ (b : Bool). if b then Some (next + length items) else None) in_row ∙ ap (λ (k : ℕ). Some (next + k)) many
-
-pub no_span_end : (next : ℕ) (items : List Item) → length items ≡ 0 → next_after next items ≡ Some next
-no_span_end next [] none = refl
-no_span_end next (x ∷ items) none = absurd (omega (arith, none))
 
 -- no region is left
 pub past_regions : (i : ℕ) → 8 ≤ i → drop i REGIONS ≡ []
@@ -126,10 +123,6 @@ module _ (files : Files) (n : ℕ) (sign : ℕ → Option PartSign) (part : ℕ 
 head_part : (files : Files) (r n : ℕ) (head : PartSign) (x : Option Part) → IsSign files r n (Some head) x → (p : Part) × (x ≡ Some p) × Tells files r n head p
 head_part files r n head None is = absurd is
 head_part files r n head (Some p) is = (p, refl, is)
-
-no_head : (files : Files) (r n : ℕ) (x : Option Part) → IsSign files r n None x → x ≡ None
-no_head files r n None is = refl
-no_head files r n (Some p) is = absurd is
 
 told_mapped : {X Y : Type 0} (f : X → Y) (told : Told) (o : Option X) → IsTold told o → IsTold told (option_map f o)
 told_mapped f Complete None h = cc

@@ -21,10 +21,8 @@ use Rattle.entry_index.specs.declared.sign.Sign.TheVariants.{Pini, Epoch, Pblk, 
 use Rattle.entry_index.specs.declared.signed_part.PartSign.{PartSign}
 use Rattle.entry_index.proofs.Signed.{tells_in}
 use Rattle.entry_index.proofs.Thinning.{keeps_later}
-
-or_none : {X : Type 0} (o : Option X) → option_or o None ≡ o
-or_none None = refl
-or_none (Some x) = refl
+use Rattle.block_laws.proofs.Unions.{or_none}
+use Rattle.entry_index.proofs.AmongLaws.{chosen}
 
 or_or : {X : Type 0} (a b c : Option X) → option_or (option_or a b) c ≡ option_or a (option_or b c)
 or_or None b c = refl
@@ -165,20 +163,8 @@ released files instance lowest n old new s journal some none reader keeps is =
 not_numbered : (m k : ℕ) (s : PartSign) → s.number ≡ k → (k ≡ m → ⊥) → if_numbered m (Some s) ≡ None
 not_numbered m k s is other = let no_match : (s.number == m) ≡ false = grind (arith, nat_tests, is, other) in ap (λ (b : Bool). if b then Some s else None) no_match
 
-numbered_number : (m : ℕ) (s t : PartSign) → if_numbered m (Some s) ≡ Some t → (s ≡ t) × (s.number ≡ m)
-numbered_number m s t is = by_test (s.number == m) refl is
-  where
-    by_test : (b : Bool) → (s.number == m) ≡ b → (if b then Some s else None) ≡ Some t → (s ≡ t) × (s.number ≡ m)
-    by_test true here is = (cc is, grind (arith, nat_tests))
-    by_test false other is = absurd (cc is)
-
 numbered_other : (m : ℕ) (s : PartSign) → if_numbered m (Some s) ≡ None → s.number ≡ m → ⊥
 numbered_other m s gone is = let here : (s.number == m) ≡ true = grind (arith, nat_tests, is) in let some : Some s ≡ None = sym (ap (λ (b : Bool). if b then Some s else None) here) ∙ gone in cc some
-
--- the sign that waits, where one of a number does
-pub waiting_is : (m : ℕ) (o : Option PartSign) (t : PartSign) → if_numbered m o ≡ Some t → (o ≡ Some t) × (t.number ≡ m)
-waiting_is m None t is = absurd (cc is)
-waiting_is m (Some s) t is = let (same, number) = numbered_number m s t is in (ap Some same, ap (λ (x : PartSign). x.number) (sym same) ∙ number)
 
 -- what waits of another entry
 pub other_waits : (m : ℕ) (o : Option PartSign) (s : PartSign) → o ≡ Some s → (s.number ≡ m → ⊥) → if_numbered m o ≡ None
@@ -238,10 +224,6 @@ placed_said g at (Tcom number mask origin count span) s is =
 placed_said g at (Pini region before generation previous) s is = absurd (cc is)
 placed_said g at (Epoch closing number blocks) s is = absurd (cc is)
 placed_said g at (Pblk block) s is = absurd (cc is)
-
-chosen : (b : Bool) (o : Option PartSign) (s : PartSign) → (if b then o else None) ≡ Some s → o ≡ Some s
-chosen true o s is = is
-chosen false o s is = absurd (cc is)
 
 pub placed_is : (p : PlacedSign) (s : PartSign) → part_sign_in p ≡ Some s → placed_by s ≡ p
 placed_is p s is = placed_said p.generation p.offset p.sign s (chosen (nat_le 1 p.generation && nat_le p.generation 65535) (part_said p.generation p.offset p.sign) s is)

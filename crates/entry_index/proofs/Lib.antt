@@ -5,7 +5,7 @@ mod Records
 pub mod Stands
 mod Cuts
 mod Indexing
-mod Thinning
+pub mod Thinning
 pub mod Either
 mod Forgetting
 mod Readers

@@ -9,7 +9,7 @@ use Rattle.global_defs.specs.Fields.{short, long, spelled_update, IsUpdate}
 use Rattle.global_defs.proofs.KeyOrder.{key_injective}
 use Rattle.repl_fields.specs.Reading.{ReadsField}
 use Rattle.entry_index.specs.Fields.{Field, Skips, key, value, pair, update}
-use Rattle.entry_index.proofs.Chains.{tail}
+use Rattle.repl_fields.proofs.Tagged.{tail}
 
 short_code : (k : Key) → is_key k ≡ true → length (encoded k) < 256
 short_code k form = search rules

@@ -11,7 +11,8 @@ use Rattle.entry_index.specs.declared.sign.Span.{Span}
 use Rattle.entry_index.specs.declared.sign.Sign.{Sign}
 use Rattle.entry_index.specs.declared.sign.Sign.TheVariants as sign
 use Rattle.entry_index.specs.declared.parts.Head.{Head}
-use Rattle.entry_index.proofs.Chains.{tail, front_then, behind_then, joined_then}
+use Rattle.entry_index.proofs.Chains.{front_then, behind_then, joined_then}
+use Rattle.repl_fields.proofs.Tagged.{tail}
 
 pub empty_is : (rest : List ℕ) (b : Bool) → b ≡ (length rest == 0) → b ≡ true → length rest ≡ 0
 empty_is rest b is true_of = grind (arith, nat_tests)

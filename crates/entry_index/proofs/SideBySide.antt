@@ -7,7 +7,7 @@ use Rattle.std.proofs.lemmas.Bool.Decides.{nat_tests}
 use Rattle.std.proofs.lemmas.List.{length-set, get_or-set_same, get_or-set_other, get_or-map, get_or_past, get_or_default, get_or-append_right, length-map}
 use Rattle.disk_defs.specs.Disk.{Files}
 use Rattle.journal_defs.specs.Instance.{InstanceRecord}
-use Rattle.journal_defs.specs.Journal.{JournalRecord, Tcom, Part}
+use Rattle.journal_defs.specs.Journal.{Tcom, Part}
 use Rattle.journal_defs.specs.Numbers.{journal_file}
 use Rattle.journal_defs.specs.Sequence.{Placed, part_of}
 use Rattle.entry_index.specs.Completing.{place_told}
@@ -23,6 +23,7 @@ use Rattle.entry_index.specs.declared.reader.Reader.{Reader}
 use Rattle.entry_index.specs.declared.signed_part.PartSign.{PartSign}
 use Rattle.entry_index.proofs.Cursors.{grows_none, grows_then}
 use Rattle.entry_index.proofs.Stands.{one_stands}
+use Rattle.entry_index.proofs.AmongLaws.{placed_is as placed_same}
 
 -- what holds of each cursor, after one has changed
 pub all_set : (P : ℕ → Cursor → Type 0) (cs : List Cursor) (i : ℕ) (x : Cursor) → ((r : ℕ) (d : Cursor) → r < length cs → (r ≡ i → ⊥) → P r (get_or cs r d)) → P i x → (r : ℕ) (d : Cursor) → r < length (set cs i x) → P r (get_or (set cs i x) r d)
@@ -127,9 +128,6 @@ row_past m cs r past = get_or_past (row_of m cs) r None (omega (arith, past, len
 got_last : {X : Type 0} (xs : List X) (x : X) → slice_get (xs ++ x ∷ []) (length xs) ≡ Some x
 got_last [] x = refl
 got_last (y ∷ xs) x = got_last xs x
-
-placed_same : (q : Placed) (g : ℕ) (x : JournalRecord) → q.generation ≡ g → q.what ≡ x → q ≡ record { generation = g; what = x }
-placed_same q g x drawn what = ap (λ (h : ℕ). record { generation = h; what = q.what }) drawn ∙ ap (λ (y : JournalRecord). record { generation = g; what = y }) what
 
 -- what waits of an entry is among the records
 module _ (files : Files) (journal : ℕ → List Placed) (r n m : ℕ) (before : List Placed) where

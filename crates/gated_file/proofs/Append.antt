@@ -45,7 +45,7 @@ appended_text s body gate tail at file bytes is reads spells =
     ∙ sym (text_behind s.hard gates s.opening (shut gate s.closed []) (framed body ++ 0 ∷ drop (length body + 5) tail))
     ∙ ap (text_with s.hard gates s.opening) (sym (shut_push gate s.closed body (drop (length body + 5) tail)))
 
-places_push : (at : ℕ) (bodies : List Body) (body : Body) → places at (bodies ++ body ∷ []) ≡ places at bodies ++ (at + length (spelled 1 bodies)) ∷ []
+pub places_push : (at : ℕ) (bodies : List Body) (body : Body) → places at (bodies ++ body ∷ []) ≡ places at bodies ++ (at + length (spelled 1 bodies)) ∷ []
 places_push at [] body = ap (λ (n : ℕ). n ∷ []) (omega arith)
 places_push at (b ∷ bodies) body =
     ap (λ (l : List ℕ). at ∷ l) (places_push (at + 5 + length b) bodies body)

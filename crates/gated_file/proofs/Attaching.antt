@@ -12,8 +12,9 @@ use Rattle.gated_file.specs.Reading.{EndsAt}
 use Rattle.disk_defs.specs.OutsideGates.{IsOutside}
 use Rattle.gated_file.specs.Begin.{IsBegun, KeepsRecords}
 use Rattle.gated_file.specs.declared.gated.Gated.{Gated}
-use Rattle.gated_file.proofs.Begins.{short_records, begun_state, settled_holds, standing_ready, settle_keeps, still_durable}
+use Rattle.gated_file.proofs.Begins.{begun_state, settled_holds, standing_ready, settle_keeps, still_durable}
 use Rattle.gated_file.proofs.Walking.{closed_at, leads_place, outside_none}
+use Rattle.disk_defs.proofs.Texts.{records_short as short_records}
 
 -- a file shorter than two bytes has no records
 pub short_empty : (o : Option Files) (file size : ℕ) → IfSome o (λ files. size ≡ length (files file)) → size < 2 → IfSome o (λ files. records (files file) ≡ Some [])

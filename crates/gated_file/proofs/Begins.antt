@@ -1,10 +1,10 @@
 -- The beginning of a gated file.
-use Rattle.std.proofs.Common.{◌≡◌, ◌≢◌, ℕ, suc, ◌<◌, ◌^◌, Bool, true, false, List, [], ◌∷◌, ◌++◌, length, drop, get_or, Option, Some, None, IfSome, IsSomeAnd, MatchBool, Result, Ok, Err, IfOk, refl, sym, ◌∙◌, ap, subst, arith}
+use Rattle.std.proofs.Common.{◌≡◌, ◌≢◌, ℕ, suc, ◌<◌, ◌^◌, Bool, true, false, List, [], ◌∷◌, ◌++◌, length, get_or, Option, Some, None, IfSome, IsSomeAnd, MatchBool, Result, Ok, Err, IfOk, refl, sym, ◌∙◌, ap, subst, arith}
 use Rattle.std.proofs.lemmas.Bool.{false≢true}
 use Rattle.std.proofs.lemmas.Bool.Decides.{nat_tests}
 use Rattle.std.specs.List.{AllByRecursion}
 use Rattle.std.specs.Option.{option_map}
-use Rattle.disk_defs.specs.Disk.{Files, View, Image, IsLawful, OnFile, Torn, Passes, Reads, ReadsAfter, AtEachMoment, IsDurable, written}
+use Rattle.disk_defs.specs.Disk.{Files, View, Image, IsLawful, OnFile, Torn, Passes, Reads, ReadsAfter, AtEachMoment, IsDurable}
 use Rattle.disk_defs.specs.Gates.{Body, Gate, Open, Shut, NoGate, gate_of, behind, bodies_from, bodies_within, records, spelled, IsBody}
 use Rattle.disk_defs.specs.Frames.{Only, SameOutside, OthersStay}
 use Rattle.disk_defs.proofs.Told.{weaker_told, both_weak, told_at}
@@ -15,6 +15,7 @@ use Rattle.gated_file.specs.Begin.{IsBegun, KeepsRecords}
 use Rattle.gated_file.specs.declared.gated.Gated.{Gated}
 use Rattle.gated_file.proofs.Steps.{holds_by, text_image}
 use Rattle.gated_file.proofs.Gates.{records_in}
+use Rattle.disk_defs.proofs.Texts.{records_short as short_records}
 
 -- an open first gate gives a record or nothing
 opened_some : (g : Gate) (next : List ℕ → Option (List Body)) → g ≢ Shut → bodies_from next g ≡ Some [] → ⊥
@@ -38,9 +39,6 @@ is_short (gate ∷ b ∷ rest) empty first =
     let one : gate ≡ 1 = first in
     let opened : bodies_from (λ r. bodies_within n r) (gate_of (1 ∷ b ∷ rest)) ≡ bodies_from (λ r. bodies_within n r) (gate_of (gate ∷ b ∷ rest)) = ap (λ (x : ℕ). bodies_from (λ r. bodies_within n r) (gate_of (x ∷ b ∷ rest))) (sym one) in
     absurd (opened_some (behind (b ∷ rest)) (λ r. bodies_within n r) (behind_open (b ∷ rest)) (opened ∙ sym (records_in (gate ∷ b ∷ rest) (omega arith)) ∙ empty))
-
-pub short_records : (file : List ℕ) → length file < 2 → records file ≡ Some []
-short_records file short = grind (arith, nat_tests)
 
 -- what a crash makes of a short file while its first byte is written
 torn_short : (old new : List ℕ) → length old < 2 → Torn 0 1 old new → length new < 2
@@ -86,14 +84,6 @@ module _ (v w x : View) (file : ℕ) (reads : Reads v w) (call : Passes (OnFile 
 
   pub synced_moments : (y : View) (files : Files) → Empty v file files → IsLawful x → AtEachMoment x y (Image x) → AtEachMoment v y (KeepsRecords v file)
   synced_moments y files empty lawful call = nothing_new v x y (KeepsRecords v file) lawful (written_moments files empty) call
-
--- a file that begins with a closed gate already
-pub begun_already : (v w : View) (file : ℕ) (bytes : List ℕ) → Reads v w → IsDurable v file bytes → get_or bytes 0 1 ≢ 1 → IsBegun w file bytes
-begun_already v w file [] reads durable shut = absurd (shut refl)
-begun_already v w file (gate ∷ tail) reads durable shut = record { gate = gate; tail = tail; shut = shut; is = refl; durable = still_durable v w file (gate ∷ tail) reads durable }
-
-pub begun_now : (w : View) (file : ℕ) (old new : List ℕ) → new ≡ written old 0 (0 ∷ []) → IsDurable w file new → IsBegun w file new
-begun_now w file old new is durable = record { gate = 0; tail = drop 1 old; shut = λ (e : 0 ≡ 1). absurd (omega arith); is = is; durable = durable }
 
 -- all its records are on the disk
 pub settled_holds : (v : View) (g : Gated) (files : Files) (bodies : List Body) (gate : ℕ) (tail : List ℕ) (number end : ℕ) → IsStanding g number end → gate ≢ 1 → AllByRecursion IsBody bodies → files number ≡ spelled 1 bodies ++ gate ∷ tail → IsDurable v number (files number)

@@ -8,12 +8,10 @@ use Rattle.disk_defs.specs.Disk.{Files}
 use Rattle.disk_defs.specs.Gates.{Body, Open, NoGate, fits, behind_length, behind, gate_of, gate_at, bodies_within, records}
 use Rattle.disk_defs.proofs.Texts.{behind_is, fits_is}
 use Rattle.gated_file.specs.Reading.{Finds, HasBody}
+use Rattle.disk_defs.proofs.Walks.{gate_in as at_long}
 
 pub records_in : (file : List ℕ) → 2 ≤ length file → records file ≡ bodies_within (length file) file
 records_in file long = grind (arith, nat_tests)
-
-pub at_long : (file : List ℕ) (at : ℕ) → 2 ≤ length file → gate_at file at ≡ gate_of (drop at file)
-at_long file at long = grind (arith, nat_tests)
 
 -- an open gate
 open_at : (file : List ℕ) (at : ℕ) → 2 ≤ length file → at < length file → 1 ∷ [] ≡ take 1 (drop at file) → gate_at file at ≡ behind (drop (at + 1) file)

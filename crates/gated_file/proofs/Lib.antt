@@ -7,3 +7,4 @@ pub mod Gates
 pub mod Begins
 pub mod Walking
 pub mod Attaching
+pub mod Listed

@@ -11,7 +11,8 @@ use Rattle.gated_file.specs.Reading.{HasBody, EndsAt}
 use Rattle.disk_defs.specs.OutsideGates.{LeadsTo, IsOutside}
 use Rattle.gated_file.proofs.Pieces.{spelled_push}
 use Rattle.gated_file.proofs.Steps.{all_append, stands_none}
-use Rattle.gated_file.proofs.Gates.{at_long, records_in}
+use Rattle.gated_file.proofs.Gates.{records_in}
+use Rattle.disk_defs.proofs.Walks.{gate_in as at_long}
 
 take_sum : (m n : ℕ) (l : List ℕ) → take (m + n) l ≡ take m l ++ take n (drop m l)
 take_sum m n l = sym (take-append-drop m (take (m + n) l)) ∙ ap (λ (x : List ℕ). x ++ drop m (take (m + n) l)) (take-take m (m + n) l (omega arith)) ∙ ap (λ (x : List ℕ). take m l ++ x) (drop-take m n l)
@@ -30,9 +31,6 @@ record_is file at n has =
     ∙ ap (λ (l : List ℕ). 1 ∷ l) (take_sum 4 n (drop (at + 1) file) ∙ ap (λ (l : List ℕ). l ++ take n (drop 4 (drop (at + 1) file))) has.head
     ∙ ap (λ (l : List ℕ). to_be_bytes w32 n ++ take n l) (drop-drop 4 (at + 1) file ∙ ap (λ (k : ℕ). drop k file) four)
     ∙ ap (λ (k : ℕ). to_be_bytes w32 k ++ body) (sym long))
-
-pub leads_start : (file : List ℕ) → 2 ≤ length file → LeadsTo file 0 []
-leads_start file long = record { front = refl; all = tt; inside = omega (arith, long) }
 
 pub leads_next : (file : List ℕ) (at n : ℕ) (bodies : List Body) → LeadsTo file at bodies → HasBody file at n → LeadsTo file (at + (n + 5)) (bodies ++ take n (drop (at + 5) file) ∷ [])
 leads_next file at n bodies leads has =

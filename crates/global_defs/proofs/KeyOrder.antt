@@ -47,7 +47,7 @@ rest_of E one (x ∷ xs) (y ∷ ys) h =
     let t = and_parts (E x y) (starts_with E ys xs) h in
     λ i. sym (one x y t.0) i ∷ rest_of E one xs ys t.1 i
 
-is_equal : (o : Ordering) → is_eq o ≡ true → o ≡ Equal
+pub is_equal : (o : Ordering) → is_eq o ≡ true → o ≡ Equal
 is_equal Less h = cc
 is_equal Equal h = refl
 is_equal Greater h = cc

@@ -55,13 +55,13 @@ pub record IsParts (bs w f : List ℕ) : Type 0 where
   pub few : length w + length f ≤ 18
   pub some : 0 < length w + length f
 
-count_from : (n : ℕ) (ds : List ℕ) → list_all is_ascii_digit ds ≡ true → fold (λ a x. a + cond (is_ascii_digit x) 1 0) n ds ≡ n + length ds
+pub count_from : (n : ℕ) (ds : List ℕ) → list_all is_ascii_digit ds ≡ true → fold (λ a x. a + cond (is_ascii_digit x) 1 0) n ds ≡ n + length ds
 count_from n [] h = omega arith
 count_from n (c ∷ cs) h =
     let t = and_parts (is_ascii_digit c) (list_all is_ascii_digit cs) h in
     rw t.0 (omega (arith, count_from (n + 1) cs t.1))
 
-count_digits : (ds : List ℕ) → list_all is_ascii_digit ds ≡ true → count_by is_ascii_digit ds ≡ length ds
+pub count_digits : (ds : List ℕ) → list_all is_ascii_digit ds ≡ true → count_by is_ascii_digit ds ≡ length ds
 count_digits ds h = omega (arith, count_from 0 ds h)
 
 some_digits : (ds : List ℕ) → not (length ds == 0) ≡ true → 0 < length ds
@@ -165,11 +165,11 @@ positive_parts bs h few = parts_at bs (position is_point bs) refl h few
 
 -- the value of a numeral without a sign, and its text
 
-zeros_digits : (n : ℕ) → AllDigits 10 (replicate n 48)
+pub zeros_digits : (n : ℕ) → AllDigits 10 (replicate n 48)
 zeros_digits zero = tt
 zeros_digits (suc n) = (omega arith, zeros_digits n)
 
-joined_digits : (xs ys : List ℕ) → AllDigits 10 xs → AllDigits 10 ys → AllDigits 10 (xs ++ ys)
+pub joined_digits : (xs ys : List ℕ) → AllDigits 10 xs → AllDigits 10 ys → AllDigits 10 (xs ++ ys)
 joined_digits [] ys p q = q
 joined_digits (x ∷ xs) ys p q = (p.0, joined_digits xs ys p.1 q)
 

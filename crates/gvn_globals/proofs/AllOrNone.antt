@@ -54,18 +54,12 @@ among_beyond g other ks is k =
 
 -- ---- fewer nodes
 
-pub less_none : (g : Globals) → IsLess g [] g
-less_none g = record { answers = λ k. refl }
-
 pub less_next : (g : Globals) (ks : List Key) (i : ℕ) (j : Key) (now next : Globals) → i < length ks → j ≡ get_or ks i j → IsLess g (take i ks) now → next ≡ remove now j → IsLess g (take (i + 1) ks) next
 less_next g ks i j now next h e l is =
     let w = without_next g ks i j now h e (record { answers = l.answers }) in
     subst (IsLess g (take (i + 1) ks)) (sym is) (record { answers = w.answers })
 
 -- ---- more nodes
-
-pub more_none : (g : Globals) → IsMore g [] g
-more_none g = record { others = λ k n. refl; here = λ k h. absurd (true≢false (sym h)) }
 
 more_push : (g : Globals) (ks : List Key) (j : Key) (v : List ℕ) (now : Globals) → IsMore g ks now → IsMore g (ks ++ j ∷ []) (insert now j v)
 more_push g ks j v now m = record {

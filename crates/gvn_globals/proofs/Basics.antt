@@ -38,10 +38,6 @@ pub of_T : (b : Bool) → T b → b ≡ true
 of_T true t = refl
 of_T false t = absurd t
 
-pub to_T : (b : Bool) → b ≡ true → T b
-to_T true e = tt
-to_T false e = absurd (true≢false (sym e))
-
 pub none_of : {A : Type 0} (o : Option A) → (is_some o ≡ true → ⊥) → o ≡ None
 none_of None f = refl
 none_of (Some x) f = absurd (f refl)

@@ -1,9 +1,7 @@
 -- The subscripts of a key below those of a node above it.
 use Rattle.std.proofs.Common.{◌≡◌, ℕ, ◌+◌, ◌≤◌, true, false, List, [], ◌∷◌, ◌++◌, length, drop, nat_eq, Option, Some, None, option_map, if◌then◌else◌, refl, sym, ap, ◌∙◌, arith, append_assoc, append-nil}
 use Rattle.std.specs.Prelude.{IfSome}
-use Rattle.std.specs.declared.cmp.Ordering.{Ordering}
-use Rattle.std.specs.declared.cmp.Ordering.TheVariants.{Less, Equal, Greater}
-use Rattle.std.specs.Ordering.{nat_cmp, eq_by_cmp, is_eq}
+use Rattle.std.specs.Ordering.{nat_cmp, eq_by_cmp}
 use Rattle.std.specs.Cmp.Lexicographic.{slice_cmp}
 use Rattle.std.specs.List.{starts_with, flat_map, list_all}
 use Rattle.std.specs.FinMap as map
@@ -17,13 +15,14 @@ use Rattle.global_defs.specs.Entry.{is_under}
 use Rattle.global_defs.specs.Evaluation.{first_sub}
 use Rattle.global_defs.specs.Valid.{is_key, is_sub}
 use Rattle.global_defs.proofs.Order.{sub_same}
-use Rattle.global_defs.proofs.KeyOrder.{key_begins}
+use Rattle.global_defs.proofs.KeyOrder.{key_begins, is_equal}
 use Rattle.global_defs.proofs.NumberValue as numbers
 use Rattle.global_defs.proofs.ValidKeys.{valid_parts}
 use Rattle.gvn_key.specs.Decoding.{sub_below, sub_end, sub_read, first_read}
 use Rattle.gvn_key.specs.Faults.{child_of}
 use Rattle.gvn_key.proofs.Decoded.{front, last_byte, sub_back, end_found}
 use Rattle.gvn_key.proofs.Subscripts.{code_parts}
+use Rattle.gvn_key.proofs.Splits.{behind_front}
 
 -- ---- the first subscript is read
 
@@ -39,11 +38,6 @@ first_back (s ∷ ss) h =
     ∙ ap (option_map sub_of) (sub_back s t.0) ∙ ap Some (numbers.sub_back s t.0)
 
 -- ---- a key under a node has the node's subscripts and more
-
-is_equal : (o : Ordering) → is_eq o ≡ true → o ≡ Equal
-is_equal Less h = cc
-is_equal Equal h = refl
-is_equal Greater h = cc
 
 rest_of : (xs ys : List Sub) → starts_with (eq_by_cmp sub_cmp) ys xs ≡ true → ys ≡ xs ++ drop (length xs) ys
 rest_of [] ys h = refl
@@ -103,10 +97,6 @@ child_valid top key s vt v u e = by (below_subs top key) refl e
         let fits : length (encoded (child_of top t)) ≤ 255 = omega (arith, ap length code, length-append (encoded top) (encoded_sub t), ap length all, length-append (encoded top) (encoded_sub t ++ flat_map encoded_sub ts), length-append (encoded_sub t) (flat_map encoded_sub ts), whole.fits) in
         ap (λ x. is_key (child_of top x)) (sym is)
         ∙ rw (parts.name, le-leb (length top.name) 31 parts.short, subs, le-leb (length (top.subs ++ t ∷ [])) 31 few) (le-leb (length (encoded (child_of top t))) 255 fits)
-
-behind_front : (xs ys : List ℕ) → drop (length xs) (xs ++ ys) ≡ ys
-behind_front [] ys = refl
-behind_front (x ∷ xs) ys = behind_front xs ys
 
 -- ---- the subscript that the code of a key has next behind that of a node above it
 

@@ -24,7 +24,7 @@ use Rattle.gvn_key.specs.Plain.{begins_numeral, is_whole_number}
 
 -- ---- digits that don't begin with 0, at most 18, are a number
 
-count_from : (n : ℕ) (ds : List ℕ) → list_all is_ascii_digit ds ≡ true → fold (λ a x. a + cond (is_ascii_digit x) 1 0) n ds ≡ n + length ds
+pub count_from : (n : ℕ) (ds : List ℕ) → list_all is_ascii_digit ds ≡ true → fold (λ a x. a + cond (is_ascii_digit x) 1 0) n ds ≡ n + length ds
 count_from n [] h = omega arith
 count_from n (c ∷ cs) h =
     let a = and_parts (is_ascii_digit c) (list_all is_ascii_digit cs) h in

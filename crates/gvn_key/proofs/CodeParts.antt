@@ -1,5 +1,5 @@
 -- The parts of a key that bytes begin with.
-use Rattle.std.proofs.Common.{◌≡◌, ℕ, zero, suc, pos, ◌+◌, ◌-◌, ◌<◌, ◌≤◌, true, false, not, ◌||◌, nat_lt, List, [], ◌∷◌, ◌++◌, length, take, drop, get_or, position, Some, refl, ap, sym, subst, ◌∙◌, arith, append_assoc, ◌==◌}
+use Rattle.std.proofs.Common.{◌≡◌, ℕ, zero, suc, pos, ◌+◌, ◌-◌, ◌<◌, ◌≤◌, true, false, not, ◌||◌, nat_lt, List, [], ◌∷◌, ◌++◌, length, take, drop, get_or, position, Some, refl, ap, sym, ◌∙◌, arith, append_assoc, ◌==◌}
 use Rattle.std.specs.List.{list_all, flat_map}
 use Rattle.std.specs.Char.{is_ascii_digit, is_ascii_alphabetic, is_ascii_alphanumeric}
 use Rattle.std.proofs.lemmas.Bool.{and_parts, ne_eqb, lt-ltb, ltb-false, not-true}
@@ -97,7 +97,3 @@ whole_found (b ∷ rest) i some e end is =
 
 pub nought_begins : (rest : List ℕ) → BeginWithSub 1 (2 ∷ rest)
 nought_begins rest = record { sub = Number (pos 0); behind = rest; code = refl; long = refl; valid = refl }
-
-pub kind_found : (bytes : List ℕ) (kind n : ℕ) → 1 ≤ length bytes → get_or bytes 0 0 ≡ kind → BeginWithSub n (kind ∷ rest_of bytes) → BeginWithSub n bytes
-kind_found [] kind n some e w = absurd (omega arith)
-kind_found (b ∷ rest) kind n some e w = subst (BeginWithSub n) (λ i. sym e i ∷ rest_is b rest i) w

@@ -36,7 +36,7 @@ encoded_parts (Text s) = refl
 
 -- the digits that are written of a number
 
-ascii_digits : (ds : List ℕ) → AllDigits 10 ds → list_all is_ascii_digit ds ≡ true
+pub ascii_digits : (ds : List ℕ) → AllDigits 10 ds → list_all is_ascii_digit ds ≡ true
 ascii_digits [] h = refl
 ascii_digits (c ∷ cs) h =
     let b = digit_from_value c h.0 in

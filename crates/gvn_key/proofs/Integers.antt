@@ -1,5 +1,5 @@
 -- Integers of at most 18 digits.
-use Rattle.std.proofs.Common.{◌≡◌, ℕ, ◌+◌, ◌-◌, ◌≤◌, ◌≢◌, true, false, not, cond, List, [], ◌∷◌, length, take, drop, get_or, fold, refl, ap, sym, ◌∙◌, arith, ◌==◌, ◌&&◌, count_by, inl, inr, Some, pos, ◌-ℤ◌, subst}
+use Rattle.std.proofs.Common.{◌≡◌, ℕ, ◌-◌, ◌≤◌, ◌≢◌, true, false, not, List, [], ◌∷◌, length, take, drop, get_or, refl, ap, sym, ◌∙◌, arith, ◌==◌, ◌&&◌, count_by, inl, inr, Some, pos, ◌-ℤ◌, subst}
 use Rattle.std.specs.List.{list_all, list_any}
 use Rattle.std.specs.Char.{is_ascii_digit}
 use Rattle.std.specs.Str.Parse.{digits_value}
@@ -8,14 +8,9 @@ use Rattle.global_defs.specs.Numeral.{integer_of, is_point, is_number, is_whole,
 use Rattle.global_defs.proofs.Numerals.{IsSigned, nought, minus, plus, numeral_signed}
 use Rattle.gvn_key.proofs.Numbers.{rest_is}
 use Rattle.global_defs.proofs.Places.{none_pass, position_nowhere}
+use Rattle.gvn_key.proofs.CodeNumbers.{count_from}
 
 -- a numeral without a point is digits, perhaps behind a minus
-
-count_from : (n : ℕ) (ds : List ℕ) → list_all is_ascii_digit ds ≡ true → fold (λ a x. a + cond (is_ascii_digit x) 1 0) n ds ≡ n + length ds
-count_from n [] h = omega arith
-count_from n (c ∷ cs) h =
-    let a = and_parts (is_ascii_digit c) (list_all is_ascii_digit cs) h in
-    rw a.0 (omega (arith, count_from (n + 1) cs a.1))
 
 no_point : (bs : List ℕ) → list_any is_point bs ≡ false → none_pass is_point bs ≡ true
 no_point [] h = refl

@@ -25,7 +25,7 @@ sub_written : (s : Sub) → is_sub s ≡ true → IsBytes (sub_bytes s) → IsSu
 sub_written (Number x) h small = number (number_text x) h
 sub_written (Text s) h small = string (zwr_written s small)
 
-abbrev others : List Sub → List ℕ
+abbrev pub others : List Sub → List ℕ
 others subs = flat_map (λ t. 44 ∷ sub_text t) subs
 
 subs_written : (s : Sub) (subs : List Sub) → is_sub s ≡ true → list_all is_sub subs ≡ true → IsBytes (sub_bytes s) → AreByteSubs subs

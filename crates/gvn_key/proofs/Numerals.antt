@@ -1,6 +1,6 @@
 -- Canonical numerals byte by byte: the states tell exactly which bytes are numbers, and so which are strings.
 use Rattle.std.proofs.Common.{◌≡◌, ◌≢◌, ℕ, suc, ◌+◌, ◌-◌, ◌<◌, ◌≤◌, ◌==◌, ◌&&◌, ◌||◌, Bool, true, false, cond, not, nat_lt, nat_le, nat_eq, List, [], ◌∷◌, ◌++◌, length, get_or, count_by, inl, inr, refl, ap, sym, subst, ◌∙◌, arith, ◌⊎◌}
-use Rattle.std.specs.List.{list_all, fold}
+use Rattle.std.specs.List.{list_all}
 use Rattle.std.specs.Char.{is_ascii_digit}
 use Rattle.std.specs.Str.Parse.{AllDigits}
 use Rattle.std.proofs.lemmas.List.{append-nil}
@@ -15,7 +15,7 @@ use Rattle.global_defs.specs.Encoded.{kept, significant}
 use Rattle.global_defs.specs.NodeText.{pointed}
 use Rattle.global_defs.proofs.Digits.{digit_bounds}
 use Rattle.global_defs.proofs.Places.{none_pass, position_behind, position_nowhere}
-use Rattle.global_defs.proofs.Numerals.{numeral_signed, positive_parts, IsParts, IsSigned, nought, minus, plus}
+use Rattle.global_defs.proofs.Numerals.{numeral_signed, positive_parts, IsParts, IsSigned, nought, minus, plus, count_digits}
 use Rattle.gvn_key.specs.Steps.{last_of, may_end, is_string, first_read, numeral_read}
 use Rattle.gvn_key.specs.Rests.{read_on}
 use Rattle.gvn_key.specs.declared.digits.Last.{Last}
@@ -102,15 +102,6 @@ parts_positive w (d ∷ ds) p =
     ap (is_positive_at (w ++ (46 ∷ f))) (position_behind is_point w 46 f (no_point w p.whole) refl)
     ∙ (λ i. (nat_eq (length w) 0 || is_whole (take-append_seam w (46 ∷ f) i)) && is_fraction (drop-append-add w (46 ∷ f) 1 i))
     ∙ rw (no_whole w (λ some. whole_is w p.whole p.lead some)) (fraction_is f p.fraction (omega arith) (p.ends (omega arith)))
-
-count_from : (n : ℕ) (ds : List ℕ) → list_all is_ascii_digit ds ≡ true → fold (λ a x. a + cond (is_ascii_digit x) 1 0) n ds ≡ n + length ds
-count_from n [] h = omega arith
-count_from n (c ∷ cs) h =
-    let t = and_parts (is_ascii_digit c) (list_all is_ascii_digit cs) h in
-    rw t.0 (omega (arith, count_from (n + 1) cs t.1))
-
-count_digits : (ds : List ℕ) → list_all is_ascii_digit ds ≡ true → count_by is_ascii_digit ds ≡ length ds
-count_digits ds h = omega (arith, count_from 0 ds h)
 
 count_pointed : (f : List ℕ) → list_all is_ascii_digit f ≡ true → count_by is_ascii_digit (pointed f) ≡ length f
 count_pointed [] h = refl

@@ -12,7 +12,7 @@ use Rattle.global_defs.specs.Numeral.{is_number, all_digits, magnitude, value_of
 use Rattle.global_defs.specs.Encoded.{kept, significant}
 use Rattle.global_defs.specs.NodeText.{pointed, number_text, magnitude_text}
 use Rattle.global_defs.proofs.Digits.{are_digits, decimal_value, value_positive, significant_padded}
-use Rattle.global_defs.proofs.Numerals.{IsParts, IsSigned, nought, minus, plus, numeral_signed, positive_parts, text_back, below_zero}
+use Rattle.global_defs.proofs.Numerals.{IsParts, IsSigned, nought, minus, plus, numeral_signed, positive_parts, text_back, below_zero, zeros_digits, joined_digits}
 use Rattle.global_defs.proofs.NumberText.{unsigned, number_small, decimal_is, decimal_short, padded_back, significant_digits}
 use Rattle.global_defs.proofs.NumberValue.{value_text}
 use Rattle.gvn_key.specs.Steps.{last_of, may_end, is_absent}
@@ -125,14 +125,6 @@ signed_parts (minus bs h few) x e some = value_parts x bs (positive_parts bs h f
 signed_parts (plus b bs ne h few) x e some =
     let v : pos (magnitude (b ∷ bs)) ≡ value_of (b ∷ bs) = rw (ne_eqb b 45 ne) refl in
     value_parts x (b ∷ bs) (positive_parts (b ∷ bs) h few) (sym (ap unsigned (v ∙ e)))
-
-zeros_digits : (n : ℕ) → AllDigits 10 (replicate n 48)
-zeros_digits zero = tt
-zeros_digits (suc n) = (omega arith, zeros_digits n)
-
-joined_digits : (xs ys : List ℕ) → AllDigits 10 xs → AllDigits 10 ys → AllDigits 10 (xs ++ ys)
-joined_digits [] ys p q = q
-joined_digits (x ∷ xs) ys p q = (p.0, joined_digits xs ys p.1 q)
 
 significant_short : (ds : List ℕ) → length (significant ds) ≤ length ds
 significant_short ds = (padded_back ds).fits

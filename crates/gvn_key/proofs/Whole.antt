@@ -1,27 +1,13 @@
 -- What reading a key's bytes one by one tells.
-use Rattle.std.proofs.Common.{◌≡◌, ℕ, ◌+◌, ◌<◌, ◌≤◌, true, false, true≢false, IsTrue, List, [], ◌∷◌, ◌++◌, length, take, drop, get_or, refl, ap, sym, subst, ◌∙◌, arith, append-nil, add-one}
-use Rattle.std.proofs.Math.ListN.{length-append}
+use Rattle.std.proofs.Common.{◌≡◌, ℕ, ◌+◌, ◌<◌, true, false, true≢false, IsTrue, List, [], ◌∷◌, ◌++◌, length, take, drop, get_or, refl, ap, sym, subst, ◌∙◌, add-one}
 use Rattle.std.proofs.Math.Seq.{take-suc}
 use Rattle.std.proofs.lemmas.List.{take-append-drop}
-use Rattle.global_defs.proofs.ValidKeys.{valid_parts}
 use Rattle.gvn_key.specs.Decoding.{IsCode}
 use Rattle.gvn_key.specs.Codes as codes
 use Rattle.gvn_key.specs.Codes.{Begins}
 
--- a key's bytes are at most 255
-pub code_short : (bytes : List ℕ) → IsCode bytes → length bytes ≤ 255
-code_short bytes c = omega (arith, ap length c.2, (valid_parts c.0 c.1).fits)
-
 pub as_long : (bytes : List ℕ) (len : ℕ) → len ≡ length bytes → IsCode bytes → codes.IsCode len bytes
 as_long bytes len is c = record { key = c.0; valid = c.1; encodes = sym c.2; long = sym is }
-
--- a key of that length begins with these bytes, which are its whole
-pub whole_code : (bytes : List ℕ) → Begins bytes (length bytes) → IsCode bytes
-whole_code bytes b = by b.rest refl
-  where
-    by : (rest : List ℕ) → b.rest ≡ rest → IsCode bytes
-    by [] e = (b.whole.key, b.whole.valid, sym (b.whole.encodes ∙ ap (λ (x : List ℕ). bytes ++ x) e ∙ append-nil bytes))
-    by (r ∷ rest) e = absurd (omega (arith, b.whole.long, length-append bytes b.rest, ap length e))
 
 -- no key begins with a front and one byte more of bytes that are a key's
 pub not_begun : (bytes : List ℕ) (i len : ℕ) → i < length bytes → len ≡ length bytes → (Begins (take i bytes ++ get_or bytes i 0 ∷ []) len → ⊥) → IsCode bytes → ⊥
@@ -35,6 +21,3 @@ none bytes never = (λ e. absurd (true≢false (sym e)), λ c. absurd (never c))
 
 pub some : (bytes : List ℕ) → IsCode bytes → (IsTrue true → IsCode bytes) × (IsCode bytes → IsTrue true)
 some bytes c = (λ _. c, λ _. refl)
-
-pub next_front : (bytes : List ℕ) (i : ℕ) → i < length bytes → take (i + 1) bytes ≡ take i bytes ++ get_or bytes i 0 ∷ []
-next_front bytes i inside = rw add-one (take-suc bytes i 0 inside)

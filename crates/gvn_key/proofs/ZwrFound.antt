@@ -252,7 +252,7 @@ sound s (b ∷ bs) g = sound_at s b bs (step s b) (moves s b) g (λ t h. sound t
 pub from_start : {t v : List ℕ} → IsRest Start t v → IsZwr t v
 from_start (start z) = z
 
-none_left : (xs : List ℕ) → (length xs == 0) ≡ true → xs ≡ []
+pub none_left : (xs : List ℕ) → (length xs == 0) ≡ true → xs ≡ []
 none_left [] h = refl
 none_left (x ∷ xs) h = absurd (omega (arith, eqb-true (length (x ∷ xs)) 0 h))
 

@@ -8,7 +8,8 @@ use Rattle.std.specs.FinMap as globals
 use Rattle.journal_defs.specs.Leaves.{Cell}
 use Rattle.block_fmt.specs.Cells.{AreBelow, AreAbove}
 use Rattle.gvt_leaf.specs.Order.{Rise}
-use Rattle.gvt_leaf.proofs.Links.{all-append, all_joined}
+use Rattle.gvt_leaf.proofs.Links.{all-append}
+use Rattle.journal_laws.proofs.ImageSteps.{all_both as all_joined}
 
 abbrev pub bytes_cmp : List ℕ → List ℕ → Ordering
 bytes_cmp = slice_cmp nat_cmp

@@ -9,7 +9,8 @@ use Rattle.block_pool.specs.Code.{Pool}
 use Rattle.block_pool.specs.Pool.{leaf_at, changed}
 use Rattle.gvt_leaf.specs.Links.{first_or, Lead, one_if, times, inside}
 use Rattle.gvt_leaf.specs.Chained.{replaced}
-use Rattle.gvt_leaf.proofs.Links.{times-append, Agree, agree_outside, cells-agree, forms-agree, Lead-replaced, all-append, all_joined}
+use Rattle.gvt_leaf.proofs.Links.{times-append, Agree, agree_outside, cells-agree, forms-agree, Lead-replaced, all-append}
+use Rattle.journal_laws.proofs.ImageSteps.{all_both as all_joined}
 
 -- the numbers round one place
 pub cut_at : (ns : List ℕ) (i : ℕ) → i < length ns → ns ≡ take i ns ++ ((get_or ns i 0 ∷ []) ++ drop (i + 1) ns)

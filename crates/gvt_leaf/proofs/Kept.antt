@@ -10,8 +10,8 @@ use Rattle.gvt_leaf.specs.Links.{Lead, times, inside}
 use Rattle.gvt_leaf.specs.Chained.{Chained, replaced, leaf_cells, all_cells}
 use Rattle.gvt_leaf.specs.Inside.{chained, IsChained}
 use Rattle.gvt_leaf.specs.declared.chain.Chain.TheInside.{Inside}
-use Rattle.gvt_leaf.proofs.Links.{all_joined}
 use Rattle.gvt_leaf.proofs.Chaining.{cut_at, Around, around, cells_replaced, forms_replaced, links_replaced, next_there, below_count, once_only, leaf-changed_same, leaf-changed_other}
+use Rattle.journal_laws.proofs.ImageSteps.{all_both as all_joined}
 
 -- as many leaves are shown as stand in the order
 pub as_many : (c : Inside) (v : Chained) → chained c ≡ v → (i : ℕ) → i < length v.leaves → i < length c.order.items

@@ -1,5 +1,5 @@
 -- Cells give the globals back whose cells they are.
-use Rattle.std.proofs.Common.{◌≡◌, ℕ, zero, suc, ◌+◌, ◌≤◌, ◌==◌, true, List, [], ◌∷◌, ◌++◌, length, take, drop, map, position, Option, Some, unwrap_or, IsTrue, refl, sym, ap, ◌∙◌, arith, append_assoc}
+use Rattle.std.proofs.Common.{◌≡◌, ℕ, zero, suc, ◌+◌, ◌≤◌, ◌==◌, true, List, [], ◌∷◌, ◌++◌, length, take, drop, map, position, Option, Some, unwrap_or, IsTrue, refl, sym, ap, ◌∙◌, arith}
 use Rattle.std.specs.List.{AllByRecursion, list_all, flat_map}
 use Rattle.std.specs.FinMap as globals
 use Rattle.std.proofs.Math.Seq.{take-append_seam, drop-append-add}
@@ -12,14 +12,12 @@ use Rattle.global_defs.proofs.NumberValue as numbers
 use Rattle.global_defs.proofs.Order.{key_total, key_same}
 use Rattle.global_defs.proofs.ValidKeys.{valid_parts}
 use Rattle.gvn_key.specs.Decoding.{sub_end, sub_read}
-use Rattle.gvn_key.proofs.Decoded.{front, last_byte, encoded_parts, sub_back, end_found}
+use Rattle.gvn_key.proofs.Decoded.{front, last_byte, sub_back, end_found}
 use Rattle.gvn_key.proofs.KeyRead.{end_known, cut}
 use Rattle.journal_defs.specs.Leaves.{Cell, cells_of}
 use Rattle.block_laws.specs.Nodes.{HaveKeys}
 use Rattle.gvt_leaf.specs.Nodes.{sub_ending, subs_in, key_in, globals_in}
-
-code_parts : (s : Sub) (ss : List Sub) → flat_map encoded_sub (s ∷ ss) ≡ front s ++ (last_byte s ∷ flat_map encoded_sub ss)
-code_parts s ss = ap (λ x. x ++ flat_map encoded_sub ss) (encoded_parts s) ∙ append_assoc (front s) (last_byte s ∷ []) (flat_map encoded_sub ss)
+use Rattle.gvn_key.proofs.Subscripts.{code_parts}
 
 pub subs_back : (n : ℕ) (ss : List Sub) → length ss ≤ n → list_all is_sub ss ≡ true → subs_in n (flat_map encoded_sub ss) ≡ ss
 subs_back zero [] few h = refl

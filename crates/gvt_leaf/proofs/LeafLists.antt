@@ -9,8 +9,8 @@ use Rattle.journal_defs.specs.Leaves.{Cell}
 use Rattle.block_fmt.specs.Cells.{AreBelow, AreAbove, cell_at}
 use Rattle.gvt_leaf.specs.Chained.{leaf_cells, all_cells, replaced}
 use Rattle.gvt_leaf.specs.Order.{Rise}
-use Rattle.gvt_leaf.proofs.Links.{all_joined}
 use Rattle.gvt_leaf.proofs.Bytes.{bytes_cmp, above_flips, below_flips, same_bytes, rise_before, rise_second, below_more, above_less}
+use Rattle.journal_laws.proofs.ImageSteps.{all_both as all_joined}
 
 pub cells-append : (xs ys : List (List Cell)) → all_cells (xs ++ ys) ≡ all_cells xs ++ all_cells ys
 cells-append xs ys = flat_map-append (λ (l : List Cell). l) xs ys
@@ -99,11 +99,3 @@ filled-replaced (l ∷ ls) zero new news all low here more = all_joined (λ (l :
 filled-replaced (l ∷ ls) (suc i) new news all low here more = rw (add-one (suc i))
     (all_joined (λ (l : List Cell). l ≢ []) (take i ls) ((new ∷ news) ++ drop (suc i) ls) (filled_to ls i all)
     (all_joined (λ (l : List Cell). l ≢ []) (new ∷ news) (drop (suc i) ls) (here (omega arith), more) (filled_past ls (suc i) all)))
-
--- and without one
-pub filled-removed : (leaves : List (List Cell)) (i : ℕ) → AllByRecursion (λ l. l ≢ []) (drop 1 leaves) → AllByRecursion (λ l. l ≢ []) (drop 1 (replaced leaves (i + 1) []))
-filled-removed leaves i all = rw (add-one i, add-one (suc i)) (by leaves all)
-  where
-    by : (leaves : List (List Cell)) → AllByRecursion (λ l. l ≢ []) (drop 1 leaves) → AllByRecursion (λ l. l ≢ []) (drop 1 (take (suc i) leaves ++ ([] ++ drop (suc (suc i)) leaves)))
-    by [] all = tt
-    by (l ∷ ls) all = all_joined (λ (l : List Cell). l ≢ []) (take i ls) (drop (suc i) ls) (filled_to ls i all) (filled_past ls (suc i) all)

@@ -13,7 +13,6 @@ pub mod Still
 pub mod Unlinks
 pub mod Updates
 pub mod Risen
-pub mod KeptClean
 pub mod Seated
 pub mod Edited
 pub mod TakenOut

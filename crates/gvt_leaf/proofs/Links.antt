@@ -48,10 +48,6 @@ pub all-append : {X : Type 0} (P : X → Type 0) (xs ys : List X) → AllByRecur
 all-append P [] ys h = (tt, h)
 all-append P (x ∷ xs) ys h = let rest = all-append P xs ys h.1 in ((h.0, rest.0), rest.1)
 
-pub all_joined : {X : Type 0} (P : X → Type 0) (xs ys : List X) → AllByRecursion P xs → AllByRecursion P ys → AllByRecursion P (xs ++ ys)
-all_joined P [] ys h k = k
-all_joined P (x ∷ xs) ys h k = (h.0, all_joined P xs ys h.1 k)
-
 -- other blocks in place of some of a chain, which begin where those began
 pub Lead-replaced : (old new : ℕ → Leaf) (xs : List ℕ) (n : ℕ) (os ns ys : List ℕ) (e : ℕ) → Agree old new xs → Agree old new ys
     → Lead new (n ∷ ns) (first_or e ys) → Lead old (xs ++ ((n ∷ os) ++ ys)) e → Lead new (xs ++ ((n ∷ ns) ++ ys)) e

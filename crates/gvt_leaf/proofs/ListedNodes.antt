@@ -1,5 +1,5 @@
 -- Nodes listed along a chain of leaves.
-use Rattle.std.proofs.Common.{◌≡◌, ℕ, ◌+◌, ◌-◌, ◌<◌, ◌≤◌, true, List, [], ◌∷◌, ◌++◌, length, take, drop, map, filter, sym, ap, subst, ◌∙◌, append_assoc, append-nil}
+use Rattle.std.proofs.Common.{◌≡◌, ℕ, ◌+◌, ◌-◌, ◌<◌, ◌≤◌, true, List, [], ◌∷◌, ◌++◌, length, take, drop, map, filter, sym, ap, subst, ◌∙◌, append_assoc}
 use Rattle.std.proofs.lemmas.List.{map-append}
 use Rattle.std.specs.declared.cmp.Ordering.TheVariants.{Less}
 use Rattle.std.specs.List.{AllByRecursion}
@@ -11,17 +11,14 @@ use Rattle.gvt_leaf.specs.Chained.{leaf_cells, all_cells}
 use Rattle.gvt_leaf.specs.Listed.{node_cell}
 use Rattle.gvt_leaf.specs.Order.{IsSeat}
 use Rattle.gvt_leaf.specs.declared.nodes.Node.{Node}
-use Rattle.gvt_leaf.proofs.Links.{all_joined}
 use Rattle.gvt_leaf.proofs.Bytes.{bytes_cmp}
 use Rattle.gvt_leaf.proofs.TakenOut.{AreNotBefore, above_not_before}
-use Rattle.gvt_leaf.proofs.Runs.{run_none, run_more, begins, begun_none}
+use Rattle.gvt_leaf.proofs.Runs.{run_more, begins, begun_none}
+use Rattle.journal_laws.proofs.ImageSteps.{all_both as all_joined}
 
 -- these nodes have keys that there are
 abbrev pub HaveKeys : List Node → Type 0
 HaveKeys nodes = AllByRecursion (λ n. is_key n.key ≡ true) nodes
-
-pub nodes_none : (front cells : List Cell) (from : ℕ) → front ≡ front ++ take (from - from) (drop from cells)
-nodes_none front cells from = sym (ap (λ (l : List Cell). front ++ l) (run_none (drop from cells) from) ∙ append-nil front)
 
 module _ (old new : List Node) (n : Node) (is : new ≡ old ++ n ∷ []) where
   pub nodes_more : (front cells : List Cell) (from i : ℕ) → map node_cell old ≡ front ++ take (i - from) (drop from cells) → from ≤ i → i < length cells

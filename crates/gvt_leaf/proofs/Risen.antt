@@ -35,13 +35,6 @@ all_filter P p (c ∷ cs) h = elim (p c) as (λ b. AllByRecursion P (cond b (c �
   | false ↦ all_filter P p cs h.1
 ]
 
-pub rise_filter : (p : Cell → Bool) (cells : List Cell) → Rise cells → Rise (filter p cells)
-rise_filter p [] h = tt
-rise_filter p (c ∷ cs) h = elim (p c) as (λ b. Rise (cond b (c ∷ filter p cs) (filter p cs))) [
-  | true ↦ (all_filter (λ d. bytes_cmp d.0 c.0 ≡ Greater) p cs h.0, rise_filter p cs h.1)
-  | false ↦ rise_filter p cs h.1
-]
-
 pub all_put : (key value : List ℕ) (cells : List Cell) → IsEncoded key → length value ≤ 1500 → AllByRecursion IsCell cells → AllByRecursion IsCell (globals.put bytes_cmp key value cells)
 all_put key value [] k v h = ((k, v), tt)
 all_put key value (c ∷ cs) k v h = by (bytes_cmp key c.0) (all_put key value cs k v h.1)

@@ -9,11 +9,12 @@ use Rattle.journal_defs.specs.Leaves.{Cell}
 use Rattle.block_fmt.specs.Cells.{AreBelow, StandsIn, cell_at}
 use Rattle.gvt_leaf.specs.Chained.{leaf_cells, all_cells}
 use Rattle.gvt_leaf.specs.Order.{Rise, AreRising}
-use Rattle.gvt_leaf.proofs.Links.{all-append, all_joined}
+use Rattle.gvt_leaf.proofs.Links.{all-append}
 use Rattle.gvt_leaf.proofs.Bytes.{bytes_cmp, rise_second}
 use Rattle.gvt_leaf.proofs.LeafLists.{cells-append}
 use Rattle.gvt_leaf.proofs.Updates.{tied, filter-append, filter_all, filter_none, is_outside, is_past, below_past, below_begins}
 use Rattle.gvt_leaf.proofs.TakenOut.{AreNotBefore, above_not_before, FirstOutside, all_outside, ahead, run, after, run_round}
+use Rattle.journal_laws.proofs.ImageSteps.{all_both as all_joined}
 
 -- ---- where a key stands
 
@@ -29,9 +30,6 @@ stands_past cells key at s =
     (all_joined (λ (c : Cell). is_past key c ≡ false) (take at cells) (cell_at cells at ∷ []) (below_past key (take at cells) s.before) (ap is_lt equal, tt))
 
 -- ---- a run of cells
-
-pub run_none : (cells : List Cell) (n : ℕ) → take (n - n) cells ≡ []
-run_none cells n = ap (λ k. take k cells) (let none : n - n ≡ 0 = omega arith in none)
 
 pub run_more : (cells : List Cell) (from i : ℕ) → from ≤ i → i < length cells → take (i + 1 - from) (drop from cells) ≡ take (i - from) (drop from cells) ++ cell_at cells i ∷ []
 run_more cells from i order low =
@@ -143,9 +141,3 @@ module _ (leaves : List (List Cell)) (code : List ℕ) (i from end : ℕ) (risin
     later_on next is =
         let none : drop end (leaf_cells leaves i) ≡ [] = drop_all end (leaf_cells leaves i) whole in
         subst (λ (l : List Cell). AreNotBefore l code) (ap (λ (l : List Cell). l ++ all_cells (drop (i + 1) leaves)) none ∙ ap (λ n. all_cells (drop n leaves)) (sym is) ∙ rest_whole leaves next) rest_later
-
--- behind the last leaf all are found
-pub found_last : (leaves : List (List Cell)) (code : List ℕ) (i from : ℕ) → length leaves ≤ i → filter (begins code) (all_cells (take i leaves) ++ take from (leaf_cells leaves i)) ≡ filter (begins code) (all_cells leaves)
-found_last leaves code i from high =
-    ap (filter (begins code)) (ap (λ (l : List Cell). all_cells (take i leaves) ++ take from l) (none_there leaves i high) ∙ ap (λ (l : List Cell). all_cells (take i leaves) ++ l) (take_all from [] (omega arith))
-    ∙ append-nil (all_cells (take i leaves)) ∙ ap all_cells (take_all i leaves high))

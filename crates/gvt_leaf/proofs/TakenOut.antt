@@ -9,12 +9,12 @@ use Rattle.block_fmt.specs.Cells.{AreBelow, AreAbove, StandsIn, BelongsAt, witho
 use Rattle.gvt_leaf.specs.Chained.{leaf_cells, all_cells, replaced}
 use Rattle.gvt_leaf.specs.Order.{Rise, IsSeat}
 use Rattle.gvt_leaf.specs.Edits.{AreFilledBut, outside}
-use Rattle.gvt_leaf.proofs.Links.{all_joined}
 use Rattle.gvt_leaf.proofs.Bytes.{bytes_cmp, rise_without}
 use Rattle.gvt_leaf.proofs.LeafLists.{cells_round, cells-replaced, filled_past, filled_to}
 use Rattle.gvt_leaf.proofs.Updates.{is_other, removed_here, removed_nowhere, is_outside, below_outside, outside_behind, filter_all, killed_some}
 use Rattle.gvt_leaf.proofs.Apart.{length_without}
 use Rattle.gvt_leaf.proofs.Seated.{count-replaced, removed_here_alone, nothing_removed}
+use Rattle.journal_laws.proofs.ImageSteps.{all_both as all_joined}
 
 -- ---- an empty leaf goes
 
@@ -32,14 +32,6 @@ filled_apart leaves zero news some low f full = absurd (omega arith)
 filled_apart [] (suc i) news some low f full = absurd (omega arith)
 filled_apart (l ∷ ls) (suc i) news some low f full =
     all_joined (λ (l : List Cell). l ≢ []) (take i ls) (news ++ drop (suc i + 1) (l ∷ ls)) f.before (all_joined (λ (l : List Cell). l ≢ []) news (drop (suc i + 1) (l ∷ ls)) full f.behind)
-
-pub gone_filled : (leaves : List (List Cell)) (i : ℕ) → 0 < i → i < length leaves → AreFilledBut leaves i → AllByRecursion (λ l. l ≢ []) (drop 1 (replaced leaves (i - 1 + 1) []))
-gone_filled leaves i some low f =
-    let same : i ≡ i - 1 + 1 = omega (arith, some) in
-    subst (λ n. AllByRecursion (λ l. l ≢ []) (drop 1 (replaced leaves n []))) same (filled_apart leaves i [] some low f tt)
-
-pub first_filled : (leaves : List (List Cell)) (i : ℕ) → i ≡ 0 → AreFilledBut leaves i → AllByRecursion (λ l. l ≢ []) (drop 1 leaves)
-first_filled leaves i none f = subst (λ n. AllByRecursion (λ l. l ≢ []) (drop (n + 1) leaves)) none f.behind
 
 pub kept_filled : (leaves : List (List Cell)) (i : ℕ) → 0 < i → i < length leaves → AreFilledBut leaves i → leaf_cells leaves i ≢ [] → AllByRecursion (λ l. l ≢ []) (drop 1 leaves)
 kept_filled leaves i some low f full =

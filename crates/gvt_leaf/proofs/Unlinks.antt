@@ -11,9 +11,10 @@ use Rattle.gvt_leaf.specs.Links.{first_or, Lead, times, inside, one_if}
 use Rattle.gvt_leaf.specs.Chained.{Chained, replaced}
 use Rattle.gvt_leaf.specs.Inside.{chained, IsChained}
 use Rattle.gvt_leaf.specs.declared.chain.Chain.TheInside.{Inside}
-use Rattle.gvt_leaf.proofs.Links.{times-append, Agree, Lead-replaced, all-append, all_joined, forms-agree}
+use Rattle.gvt_leaf.proofs.Links.{times-append, Agree, Lead-replaced, all-append, forms-agree}
 use Rattle.gvt_leaf.proofs.Chaining.{cut_at, Around, around, next_there, once_only, leaf-changed_same, leaf-changed_other}
 use Rattle.gvt_leaf.proofs.Kept.{as_many, number_inside}
+use Rattle.journal_laws.proofs.ImageSteps.{all_both as all_joined}
 
 -- the numbers round two neighbours
 pub cut_two : (ns : List ℕ) (i : ℕ) → i + 1 < length ns → ns ≡ take i ns ++ ((get_or ns i 0 ∷ get_or ns (i + 1) 0 ∷ []) ++ drop (i + 1 + 1) ns)

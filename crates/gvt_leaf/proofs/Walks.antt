@@ -19,9 +19,10 @@ use Rattle.gvt_leaf.specs.Links.{first_or, Lead, times, one_if}
 use Rattle.gvt_leaf.specs.Chained.{all_cells}
 use Rattle.gvt_leaf.specs.Order.{Rise, AreRising}
 use Rattle.gvt_leaf.specs.Walked.{leaves_of, go_on, Follows, Breaks, BreaksAt, IsWalked}
-use Rattle.gvt_leaf.proofs.Links.{times-append, Lead_joined, all-append, all_joined}
+use Rattle.gvt_leaf.proofs.Links.{times-append, Lead_joined, all-append}
 use Rattle.gvt_leaf.proofs.Bytes.{bytes_cmp, above_flips, below_flips, rise_before, rise_second, above_less}
 use Rattle.gvt_leaf.proofs.LeafLists.{cells-append}
+use Rattle.journal_laws.proofs.ImageSteps.{all_both as all_joined}
 
 -- ---- rising cells
 

@@ -11,10 +11,8 @@ use Rattle.repl_fields.specs.Reading.{ReadsField}
 use Rattle.journal_defs.specs.Instance.{InstanceRecord, Create, Reigned, Cut, Map, Mode, NamedMode, IsInForm, IsInstanceBody, spelled_record, spelled_region}
 use Rattle.instance_file.specs.Fields.{IsRegion, AreRegions}
 use Rattle.instance_file.specs.Values.{named_mode}
-use Rattle.instance_file.proofs.Chains.{Field, Reads, byte, word, double, site, and, none_as, out_as, some_as}
-
-tail : {x y : ℕ} {xs ys : List ℕ} → x ∷ xs ≡ y ∷ ys → xs ≡ ys
-tail e = cc
+use Rattle.repl_fields.proofs.Chains.{Field, Reads, byte, word, double, site, and, none_as, out_as, some_as}
+use Rattle.repl_fields.proofs.Tagged.{tail}
 
 -- a record of one kind as its field behind the kind
 module _ {X : Type 0} (f : Field X) (kind : ℕ) (of : X → InstanceRecord) (same : (x : X) → spelled_record (of x) ≡ kind ∷ f.spelled x)

@@ -14,6 +14,7 @@ use Rattle.instance_file.specs.declared.record.InstanceRecord as stored
 use Rattle.instance_file.specs.declared.record.InstanceRecord.TheVariants as variant
 use Rattle.site_defs.specs.OutsideInstance.{left_by}
 use Rattle.instance_file.specs.Walks.{surviving_in}
+use Rattle.global_defs.proofs.Starts.{last_start}
 
 abbrev stays : List InstanceRecord → Reign → Bool
 stays later r = list_all (spares_start r.start) later
@@ -81,15 +82,6 @@ left_next earlier x later =
 pub left_all : (rs : List Reign) → left_by [] rs ≡ rs
 left_all [] = refl
 left_all (r ∷ rs) = ap (λ (l : List Reign). r ∷ l) (left_all rs)
-
--- the start of the last one, or this
-abbrev pub last_start : ℕ → List Reign → ℕ
-last_start low [] = low
-last_start low (r ∷ rs) = last_start r.start rs
-
-pub last_push : (low : ℕ) (rs : List Reign) (r : Reign) → last_start low (rs ++ r ∷ []) ≡ r.start
-last_push low [] r = refl
-last_push low (q ∷ rs) r = last_push q.start rs r
 
 pub rise_push : (low : ℕ) (rs : List Reign) (r : Reign) → StartsRise low rs → last_start low rs < r.start → StartsRise low (rs ++ r ∷ [])
 rise_push low [] r rise past = (past, tt)

@@ -1,7 +1,5 @@
-mod Chains
 mod Bodies
 mod RegionLists
-mod Pushes
 mod Putting
 mod Histories
 mod Orders
@@ -11,7 +9,7 @@ mod Zips
 mod Passing
 mod States
 mod Sizes
-mod Mores
+pub mod Mores
 mod Outside
 mod Making
 mod Logs

@@ -1,15 +1,12 @@
 -- Files outside the format of gated files are no instance files.
-use Rattle.std.proofs.Common.{◌≡◌, inl, inr, ℕ, ◌<◌, List, length, Some, None, arith}
+use Rattle.std.proofs.Common.{◌≡◌, inl, inr, ℕ, List, length, Some, None}
 use Rattle.std.proofs.lemmas.Bool.{cases_lt}
-use Rattle.std.proofs.lemmas.Bool.Decides.{nat_tests}
 use Rattle.disk_defs.specs.Gates.{Gate, Shut, NoGate, gate_at, records}
 use Rattle.disk_defs.specs.OutsideGates.{IsOutside}
 use Rattle.gated_file.proofs.Walking.{outside_none}
 use Rattle.journal_defs.specs.Instance.{InstanceRecord}
 use Rattle.journal_defs.specs.Stands.{IsInstance}
-
-short_shut : (file : List ℕ) (at : ℕ) → length file < 2 → gate_at file at ≡ Shut
-short_shut file at short = grind (arith, nat_tests)
+use Rattle.disk_defs.proofs.Walks.{short_shut}
 
 other_gate : (g : Gate) → g ≡ Shut → g ≡ NoGate → ⊥
 other_gate g shut none = cc (shut, none)

@@ -11,9 +11,10 @@ use Rattle.journal_laws.proofs.Later.{reigns-same}
 use Rattle.instance_file.specs.Order.{AreInOrder}
 use Rattle.global_defs.specs.Pattern.{ends_in_star, stem}
 use Rattle.instance_file.proofs.Orders.{ordered_behind}
-use Rattle.instance_file.proofs.Histories.{last_start, rise_push}
+use Rattle.instance_file.proofs.Histories.{rise_push}
+use Rattle.global_defs.proofs.Starts.{last_start}
 
-rise_lower : (rs : List Reign) (low high : ℕ) → low ≤ high → StartsRise high rs → StartsRise low rs
+pub rise_lower : (rs : List Reign) (low high : ℕ) → low ≤ high → StartsRise high rs → StartsRise low rs
 rise_lower [] low high le rise = tt
 rise_lower (r ∷ rs) low high le rise = (omega (arith, rise.0), rise.1)
 

@@ -56,13 +56,6 @@ cuts_alone low (Reigned r) past = tt
 cuts_alone low (Map region star name) past = tt
 cuts_alone low (Mode region before) past = tt
 
-past_both : (low n k : ℕ) (rs : List InstanceRecord) (x : InstanceRecord) → IsPast k x → IsPast (generation rs) x → IsPast (generation (Cut n k ∷ rs)) x
-past_both low n k rs (Cut m g) one two = omega arith
-past_both low n k rs (Create name regions) one two = tt
-past_both low n k rs (Reigned r) one two = tt
-past_both low n k rs (Map region star name) one two = tt
-past_both low n k rs (Mode region before) one two = tt
-
 past_first : (n k : ℕ) (rs : List InstanceRecord) (x : InstanceRecord) → IsPast (generation (Cut n k ∷ rs)) x → IsPast k x
 past_first n k rs (Cut m g) past = omega arith
 past_first n k rs (Create name regions) past = tt

@@ -1,14 +1,10 @@
 -- Reading an instance file from record to record.
-use Rattle.std.proofs.Common.{◌≡◌, inl, inr, ℕ, ◌+◌, ◌==◌, List, [], ◌∷◌, ◌++◌, length, drop, Option, Some, None, IfSome, refl, sym, ◌∙◌, ap, subst, arith, append_assoc, append-nil, length-append}
-use Rattle.std.specs.Option.{option_map}
-use Rattle.disk_defs.specs.Gates.{Body, Open, gate_at, bodies_at, records, framed, spelled}
+use Rattle.std.proofs.Common.{◌≡◌, inl, inr, ℕ, ◌+◌, ◌==◌, List, [], ◌∷◌, ◌++◌, length, drop, Option, Some, None, IfSome, refl, sym, ◌∙◌, ap, subst, arith, append-nil}
+use Rattle.disk_defs.specs.Gates.{Body, Open, gate_at, bodies_at, records, spelled}
 use Rattle.disk_defs.specs.Disk.{Files}
-use Rattle.disk_defs.proofs.Told.{both_weak, told_at}
-use Rattle.gated_file.specs.declared.gated.Gated.{Gated}
-use Rattle.disk_defs.proofs.Texts.{length-framed}
+use Rattle.disk_defs.proofs.Told.{both_weak}
 use Rattle.disk_defs.proofs.Walks.{at_shut, at_open, at_none}
 use Rattle.gated_file.specs.State.{places}
-use Rattle.gated_file.proofs.Pieces.{spelled_push}
 use Rattle.journal_defs.specs.Instance.{InstanceRecord, IsInstanceBody, generation}
 use Rattle.journal_laws.proofs.Readings.{instance_body}
 use Rattle.journal_laws.proofs.Appending.{zip_append}
@@ -20,6 +16,8 @@ use Rattle.instance_file.specs.Walks.{IsListed}
 use Rattle.instance_file.specs.declared.record.InstanceRecord as code
 use Rattle.instance_file.proofs.Orders.{stand_follows, follows_stand, generation_next}
 use Rattle.instance_file.proofs.Zips.{AreBodiesOf}
+use Rattle.gated_file.proofs.Append.{places_push}
+use Rattle.gated_file.proofs.Listed.{begun, list_after, next_place}
 
 -- Up to this place stand these records, whose gates have these places, and the last CUT has this generation.
 pub record Passed (file : List ℕ) (at : ℕ) (rs : List InstanceRecord) (gates : List ℕ) (last : ℕ) : Type 0 where
@@ -45,28 +43,6 @@ passed_none file bodies list = record {
   ordered = record { create = tt; cuts = tt };
   last_is = refl;
 }
-
-places_push : (at : ℕ) (bodies : List Body) (body : Body) → places at (bodies ++ body ∷ []) ≡ places at bodies ++ (at + length (spelled 1 bodies)) ∷ []
-places_push at [] body = ap (λ (n : ℕ). n ∷ []) (omega arith)
-places_push at (b ∷ bodies) body =
-    ap (λ (l : List ℕ). at ∷ l) (places_push (at + 5 + length b) bodies body)
-    ∙ ap (λ (n : ℕ). at ∷ (places (at + 5 + length b) bodies ++ n ∷ [])) (omega (arith, length-append (framed b) (spelled 1 bodies), length-framed b))
-
--- a list that begins with a body
-pub record Begun (body : Body) (o : Option (List Body)) (bodies : List Body) : Type 0 where
-  pub more : List Body
-  pub is : bodies ≡ body ∷ more
-  pub rest : o ≡ Some more
-
-begun : (body : Body) (o : Option (List Body)) (bodies : List Body) → option_map (λ bs. body ∷ bs) o ≡ Some bodies → Begun body o bodies
-begun body None bodies is = absurd (cc is)
-begun body (Some more) bodies is = record { more = more; is = cc is; rest = refl }
-
-list_after : (file : List ℕ) (done rest more : List Body) (body : Body) → records file ≡ Some (done ++ rest) → rest ≡ body ∷ more → records file ≡ Some ((done ++ body ∷ []) ++ more)
-list_after file done rest more body list is = list ∙ ap Some (ap (λ (l : List Body). done ++ l) is ∙ sym (append_assoc done (body ∷ []) more))
-
-next_place : (done : List Body) (body : Body) (at next : ℕ) → at ≡ length (spelled 1 done) → next ≡ at + 5 + length body → next ≡ length (spelled 1 (done ++ body ∷ []))
-next_place done body at next place next_is = omega (arith, place, next_is, ap length (spelled_push 1 done body), length-append (spelled 1 done) (1 ∷ framed body), length-framed body)
 
 module _ (file : List ℕ) (at : ℕ) (rs : List InstanceRecord) (gates : List ℕ) (last : ℕ) (p : Passed file at rs gates last) where
   may_follow : (x : InstanceRecord) → MayStand (length rs == 0) last x → MayStand (length rs == 0) (generation rs) x
@@ -130,10 +106,6 @@ module _ (file : List ℕ) (at : ℕ) (rs : List InstanceRecord) (gates : List �
     where
       no_list : Some p.rest ≡ None → ⊥
       no_list is = cc is
-
--- the same of a Gated and a disk that are as they were
-pub told_same : (o n : Option Files) (g h : Gated) (P : List ℕ → Type 0) → n ≡ o → h ≡ g → IfSome n (λ files. P (files h.file)) → IfSome o (λ files. P (files g.file))
-told_same o n g h P content same told = told_at o n (λ files. P (files g.file)) content (subst (λ (x : Gated). IfSome n (λ files. P (files x.file))) same told)
 
 -- the same of a file that the disk tells, or doesn't
 module _ (o : Option Files) (file at : ℕ) (rs : List InstanceRecord) (gates : List ℕ) (last : ℕ) (p : IfSome o (λ files. Passed (files file) at rs gates last)) where

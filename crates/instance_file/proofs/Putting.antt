@@ -5,7 +5,7 @@ use Rattle.disk_defs.specs.Frames.{Only, OnlyOn}
 use Rattle.disk_defs.specs.Gates.{Body, Stands}
 use Rattle.disk_defs.proofs.Moments.{only_then, only_weaker}
 
-take_none : (bodies : List Body) (n : ℕ) → bodies ++ take n [] ≡ bodies ++ []
+pub take_none : (bodies : List Body) (n : ℕ) → bodies ++ take n [] ≡ bodies ++ []
 take_none bodies zero = refl
 take_none bodies (suc n) = refl
 

@@ -3,7 +3,7 @@ use Rattle.std.proofs.Common.{◌≡◌, ℕ, suc, ◌+◌, ◌-◌, ◌<◌, Li
 use Rattle.std.specs.Option.{option_map}
 use Rattle.journal_defs.specs.Instance.{NamedMode, spelled_region}
 use Rattle.instance_file.specs.Fields.{IsRegion, AreRegions}
-use Rattle.instance_file.proofs.Chains.{Field, Reads}
+use Rattle.repl_fields.proofs.Chains.{Field, Reads}
 
 abbrev pub region : Field NamedMode
 region = record { has = IsRegion; spelled = spelled_region }

@@ -11,7 +11,8 @@ use Rattle.instance_file.specs.Values.{record_value}
 use Rattle.site_defs.specs.OutsideInstance.{left_by}
 use Rattle.instance_file.specs.Walks.{surviving_in, IsWrongReign}
 use Rattle.instance_file.specs.declared.record.InstanceRecord as code
-use Rattle.instance_file.proofs.Histories.{left_next, left_all, as_list, last_start, last_push, rise_push, rise_past}
+use Rattle.instance_file.proofs.Histories.{left_next, left_all, as_list, rise_push, rise_past}
+use Rattle.global_defs.proofs.Starts.{last_start, last_push}
 
 some_if : (b : Bool) (q r : Reign) → (if b then Some q else None) ≡ Some r → (b ≡ true) × (q ≡ r)
 some_if true q r is = (refl, cc)

@@ -14,6 +14,7 @@ use Rattle.instance_file.specs.Order.{AreInOrder}
 use Rattle.instance_file.specs.Instance.{HoldsRecords, HasRecords, IsReady, StandsWith}
 use Rattle.instance_file.specs.declared.instance.Instance.{Instance}
 use Rattle.instance_file.proofs.Zips.{AreBodiesOf}
+use Rattle.instance_file.proofs.Putting.{take_none}
 
 -- bodies of records in their order are an instance file
 pub instance_of : (file : List ℕ) (bodies : List Body) (rs : List InstanceRecord) → records file ≡ Some bodies → AreBodiesOf bodies rs → AreInOrder rs → IsInstance file rs
@@ -26,10 +27,6 @@ instance_of file bodies rs list are order = record {
 
 pub order_of : (file : List ℕ) (rs : List InstanceRecord) → IsInstance file rs → AreInOrder rs
 order_of file rs is = record { ordered = record { create = is.create; cuts = is.cuts }; reigns = is.reigns }
-
-take_none : (bodies : List Body) (n : ℕ) → bodies ++ take n [] ≡ bodies ++ []
-take_none bodies zero = refl
-take_none bodies (suc n) = refl
 
 settled_stands : (file : List ℕ) (bodies : List Body) (rs : List InstanceRecord) → Stands bodies [] file → AreBodiesOf bodies rs → AreInOrder rs → IsInstance file rs
 settled_stands file bodies rs stands are order = instance_of file bodies rs (stands.2 ∙ ap Some (take_none bodies stands.0 ∙ append-nil bodies)) are order

@@ -22,7 +22,8 @@ use Rattle.script_defs.specs.Statements.{IsOperand, set, kill, zkill, incr, get,
 use Rattle.jnl_extract.specs.Extracts.{IsSpelled}
 use Rattle.jnl_extract.specs.Lines.{update_tail}
 use Rattle.jnl_extract.proofs.Cuts.{none_of}
-use Rattle.jnl_extract.proofs.FieldLaws.{number_clean, ascii_digits}
+use Rattle.jnl_extract.proofs.FieldLaws.{number_clean}
+use Rattle.gvn_key.proofs.Decoded.{ascii_digits}
 
 -- no line feed
 abbrev pub Clean : List ℕ → Type 0

@@ -4,9 +4,7 @@ use Rattle.std.specs.Prelude.{decimal}
 use Rattle.std.specs.Str.{bytes_eq}
 use Rattle.std.specs.List.{list_any, list_all}
 use Rattle.std.specs.Char.{is_ascii_digit, is_ascii_alphabetic, is_ascii_alphanumeric}
-use Rattle.std.specs.Str.Parse.{AllDigits}
-use Rattle.std.proofs.lemmas.Str.Parse.{digit_from_value}
-use Rattle.std.proofs.lemmas.Bool.{and_parts, and_from, le-leb, ltb-true, lt-ltb, eq-eqb, or_parts, or_from}
+use Rattle.std.proofs.lemmas.Bool.{and_parts, and_from, ltb-true, lt-ltb, eq-eqb, or_parts, or_from}
 use Rattle.std.proofs.lemmas.Fmt.{decimal_injective}
 use Rattle.std.proofs.lemmas.List.Folds.{list_any-append}
 use Rattle.global_defs.specs.Entry.{Stamp, Origin}
@@ -14,12 +12,7 @@ use Rattle.global_defs.specs.Fields.{IsSiteName, IsStamp, IsOrigin}
 use Rattle.global_defs.proofs.NumberText.{decimal_is}
 use Rattle.jnl_extract.specs.Lines.{is_site_name, stamp_text, origin_text}
 use Rattle.jnl_extract.proofs.Cuts.{none_of, one_cut}
-
-pub ascii_digits : (ds : List ℕ) → AllDigits 10 ds → list_all is_ascii_digit ds ≡ true
-ascii_digits [] h = refl
-ascii_digits (c ∷ cs) h =
-    let b = digit_from_value c h.0 in
-    rw (le-leb 48 c (omega (arith, b)), le-leb c 57 (omega (arith, b))) (ascii_digits cs h.1)
+use Rattle.gvn_key.proofs.Decoded.{ascii_digits}
 
 pub number_clean : (byte n : ℕ) → is_ascii_digit byte ≡ false → n < 2 ^ 64 → list_any (λ b. b == byte) (decimal n) ≡ false
 number_clean byte n q h = none_of is_ascii_digit byte (decimal n) q (ascii_digits (decimal n) (decimal_is n (omega arith)).digits)

@@ -11,11 +11,11 @@ use Rattle.global_defs.specs.Jobs as jobs
 use Rattle.global_defs.specs.Fields.{IsSiteName}
 use Rattle.script_defs.proofs.StatementsWritten.{statement_written}
 use Rattle.jnl_extract.specs.Extracts.{IsSpelled, IsEntry, IsExtract, IsExtractOf, extract_text, IsFront, IsBadLine}
-use Rattle.jnl_extract.specs.Lines.{Head, Line, Opens, Holds, Closes, line_body, line_head, line_rest, line_word, header_body, stamp_text, origin_text, IsHead, IsLine, Stage, stage_of, head_of, updates_of, made_entry, Refuses, Takes, Begins}
+use Rattle.jnl_extract.specs.Lines.{Head, Line, Opens, Holds, Closes, line_body, line_head, line_rest, line_word, header_body, stamp_text, origin_text, IsHead, IsLine, Stage, head_of, updates_of, made_entry, Refuses, Takes, Begins}
 use Rattle.jnl_extract.proofs.Forms.{entry_of_form}
 use Rattle.jnl_extract.proofs.Cuts.{one_cut}
 use Rattle.jnl_extract.proofs.FieldLaws.{number_clean, name_clean}
-use Rattle.jnl_extract.proofs.LineLaws.{same_line}
+use Rattle.jnl_extract.proofs.LineLaws.{same_line, is_head as head_is}
 use Rattle.jnl_extract.proofs.LineTexts.{text_of, text-append, lines_from, entry_lines, all_lines, extract_is}
 use Rattle.jnl_extract.proofs.Clean.{Clean, clean_both, tail_clean}
 use Rattle.jnl_extract.proofs.Grammar.{entries_of, ArePending, AreEntries, IsStage, pending_lines, lines_at, stage_lines, all_more, pushed, in_brackets, goes, same_length}
@@ -40,11 +40,6 @@ clean_rest : (l : Line) → IsLine l → Clean (line_rest l)
 clean_rest (Opens h) i = clean_origin h i
 clean_rest (Holds h u) i = clean_both (origin_text h.origin) (92 ∷ _) (clean_origin h i.0) (tail_clean u i.1)
 clean_rest (Closes h) i = clean_origin h i
-
-head_is : (l : Line) → IsLine l → IsHead (line_head l)
-head_is (Opens h) i = i
-head_is (Holds h u) i = i.0
-head_is (Closes h) i = i
 
 pub line_clean : (l : Line) → IsLine l → Clean (line_body l)
 line_clean l i =
@@ -210,12 +205,6 @@ front_at site from next entries (Some p) n f a i =
 pub record IsRead (text site : List ℕ) (from : ℕ) (s : Stage) (left : List ℕ) : Type 0 where
   pub stage : IsStage from s
   pub text_is : text ≡ (header_body site from ++ 10 ∷ []) ++ (text_of (stage_lines s) ++ left)
-
-pub begin_read : (text site : List ℕ) (from : ℕ) (rest : List ℕ) → Begins text site from rest → IsRead text site from (stage_of from [] None) rest
-begin_read text site from rest b = record {
-  stage = record { entries = record { next_is = omega arith; numbered = refl; each = tt; room = b.last }; pending = tt };
-  text_is = b.text_is;
-}
 
 pub take_line : (text site : List ℕ) (from : ℕ) (s t : Stage) (left rest : List ℕ) → IsRead text site from s left → Takes s left t rest → IsRead text site from t rest
 take_line text site from s t left rest r k =

@@ -17,7 +17,8 @@ use Rattle.jnl_file.specs.Reading.{FindsRecord, IsNoRecord}
 use Rattle.jnl_file.specs.Generations.{MayJoin, HasNewer, StopsAt}
 use Rattle.jnl_file.specs.Newer.{Reached}
 use Rattle.jnl_file.proofs.Zips.{zip_append}
-use Rattle.jnl_file.proofs.Walk.{at_start, past_start, no_more_pinis, next_place}
+use Rattle.jnl_file.proofs.Walk.{at_start, past_start, no_more_pinis}
+use Rattle.gated_file.proofs.Listed.{next_place}
 
 map_same : (o : Option (List Body)) → o ≡ option_map (λ rest. [] ++ rest) o
 map_same None = refl

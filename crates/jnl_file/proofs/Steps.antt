@@ -1,5 +1,5 @@
 -- A journal's records go on with its bodies.
-use Rattle.std.proofs.Common.{◌≡◌, ◌≢◌, ◌<◌, refl, ℕ, suc, ◌+◌, List, [], ◌∷◌, ◌++◌, length, take, Option, Some, None, IfSome, IsSomeAnd, sym, ◌∙◌, ap, subst, arith, append_assoc, length-append}
+use Rattle.std.proofs.Common.{◌≡◌, ◌<◌, refl, ℕ, suc, ◌+◌, List, [], ◌∷◌, ◌++◌, length, take, Option, Some, None, IfSome, IsSomeAnd, sym, ◌∙◌, ap, subst, arith, append_assoc, length-append}
 use Rattle.std.proofs.lemmas.List.{take-append-le}
 use Rattle.std.specs.List.{AllZip}
 use Rattle.disk_defs.specs.Disk.{Files, View, IsLawful, AtEachMoment, ReadsAfter}
@@ -149,17 +149,6 @@ none_closed v j s has none =
     zipped [] [] is zip = refl
     zipped [] (r ∷ rs) is zip = absurd zip
     zipped (body ∷ more) rs is zip = cc is
-
--- where some gate is closed, some record does
-pub some_closed : (v : View) (j : Journal) (s : Recorded) → HasRecords v j s → HasClosed j → s.closed ≢ []
-some_closed v j s has some is =
-    let b = bodies_of v j s has in
-    with_told v.content (gates.Holds v j.gated b.bodies) ⊥ b.has (λ files held. among (bodies.place b.bodies) b.bodies.closed s.closed j.gated.closed.items held.places some b.are.closed is)
-  where
-    among : (at : ℕ) (closed : List Body) (rs : List JournalRecord) (items : List ℕ) → items ≡ bodies.places at closed → 0 < length items → zips closed rs → rs ≡ [] → ⊥
-    among at [] rs items places more zip none = omega (arith, ap length places)
-    among at (body ∷ bodies) [] items places more zip none = zip
-    among at (body ∷ bodies) (r ∷ rs) items places more zip none = cc none
 
 -- the bodies are synced before their gates are opened,
 pub before_opening : (v w : View) (file : ℕ) (s : Recorded) → AtEachMoment v w (OnlyOn v file (StandsRecords s.hard s.opening)) → AtEachMoment v w (OnlyOn v file (StandsRecords s.hard (s.opening ++ s.closed)))

@@ -1,15 +1,11 @@
 -- Reading a journal from record to record.
-use Rattle.std.proofs.Common.{◌≡◌, inl, inr, ℕ, suc, ◌+◌, nat_eq, Bool, true, false, List, [], ◌∷◌, ◌++◌, length, drop, Option, Some, None, IfSome, refl, sym, ◌∙◌, ap, subst, arith, append_assoc, append-nil, length-append}
+use Rattle.std.proofs.Common.{◌≡◌, inl, inr, ℕ, suc, nat_eq, Bool, true, false, List, [], ◌∷◌, ◌++◌, length, drop, Option, Some, None, IfSome, refl, sym, ◌∙◌, ap, subst, arith, append-nil}
 use Rattle.std.proofs.lemmas.Bool.Decides.{nat_tests}
-use Rattle.std.specs.Option.{option_map}
 use Rattle.std.specs.List.{AllByRecursion, AllZip}
 use Rattle.disk_defs.specs.Gates.{Body, Open, gate_at, bodies_at, records, framed, spelled}
 use Rattle.disk_defs.specs.Disk.{Files}
-use Rattle.disk_defs.proofs.Told.{told_at, both_weak}
-use Rattle.disk_defs.proofs.Texts.{length-framed}
+use Rattle.disk_defs.proofs.Told.{both_weak}
 use Rattle.disk_defs.proofs.Walks.{at_shut, at_open, at_none}
-use Rattle.gated_file.specs.declared.gated.Gated.{Gated}
-use Rattle.gated_file.proofs.Pieces.{spelled_push}
 use Rattle.journal_defs.specs.Journal.{JournalRecord, Pini, Epoch, Pblk, Tcom, IsJournalBody, IsNoPini, BeginsWithPini}
 use Rattle.journal_defs.specs.FileGrowth.{MayFollow}
 use Rattle.journal_defs.specs.Stands.{Holds}
@@ -19,6 +15,7 @@ use Rattle.jnl_record.specs.declared.record.JnlRecord.{JnlRecord}
 use Rattle.jnl_file.specs.Reading.{FindsRecord, IsNoRecord, HoldsFrom, IsPiniOf, MayStand, IsJournalFile}
 use Rattle.site_defs.specs.OutsideJournal.{HasWrongRecord}
 use Rattle.jnl_file.proofs.Zips.{Split, zip_append, zip_split}
+use Rattle.gated_file.proofs.Listed.{begun, list_after, next_place}
 
 -- Up to this place stand records of a journal of this region and generation.
 pub record Walked (region generation : ℕ) (file : List ℕ) (at : ℕ) : Type 0 where
@@ -94,22 +91,6 @@ follows_stands [] [] zip x region generation at previous place follows = subst (
 follows_stands [] (y ∷ ys) zip x region generation at previous place follows = absurd zip
 follows_stands (b ∷ done) [] zip x region generation at previous place follows = absurd zip
 follows_stands (b ∷ done) (y ∷ ys) zip x region generation at previous place follows = subst (λ (b : Bool). MayStand b region generation x) (sym (past_start at (length (framed b ++ spelled 1 done)) place)) follows.0
-
--- a list that begins with a body
-record Begun (body : Body) (o : Option (List Body)) (bodies : List Body) : Type 0 where
-  pub more : List Body
-  pub is : bodies ≡ body ∷ more
-  pub rest : o ≡ Some more
-
-begun : (body : Body) (o : Option (List Body)) (bodies : List Body) → option_map (λ bs. body ∷ bs) o ≡ Some bodies → Begun body o bodies
-begun body None bodies is = absurd (cc is)
-begun body (Some more) bodies is = record { more = more; is = cc is; rest = refl }
-
-list_after : (file : List ℕ) (done rest more : List Body) (body : Body) → records file ≡ Some (done ++ rest) → rest ≡ body ∷ more → records file ≡ Some ((done ++ body ∷ []) ++ more)
-list_after file done rest more body list is = list ∙ ap Some (ap (λ (l : List Body). done ++ l) is ∙ sym (append_assoc done (body ∷ []) more))
-
-pub next_place : (done : List Body) (body : Body) (at next : ℕ) → at ≡ length (spelled 1 done) → next ≡ at + 5 + length body → next ≡ length (spelled 1 (done ++ body ∷ []))
-next_place done body at next place next_is = omega (arith, place, next_is, ap length (spelled_push 1 done body), length-append (spelled 1 done) (1 ∷ framed body), length-framed body)
 
 module _ (region generation : ℕ) (file : List ℕ) (at : ℕ) (w : Walked region generation file at) where
   pub walked_next : (x : JnlRecord) (next : ℕ) → FindsRecord file at (Some (x, next)) → MayStand (nat_eq at 0) region generation (record_value x) → Walked region generation file next
@@ -235,10 +216,6 @@ pub told_end : (o : Option Files) (file region generation at : ℕ) → IfSome o
 told_end o file region generation at walked shut =
     both_weak o (λ files. Walked region generation (files file) at) (λ files. FindsRecord (files file) at None) (λ files. (rs : List JournalRecord) × IsJournalFile region generation (files file) rs) walked shut
     (λ files w is. walked_end region generation (files file) at w is)
-
--- the same of a Gated and a disk that are as they were
-pub told_same : (o n : Option Files) (g h : Gated) (P : List ℕ → Type 0) → n ≡ o → h ≡ g → IfSome n (λ files. P (files h.file)) → IfSome o (λ files. P (files g.file))
-told_same o n g h P content same told = told_at o n (λ files. P (files g.file)) content (subst (λ (x : Gated). IfSome n (λ files. P (files x.file))) same told)
 
 -- reading on gives the records
 pub from_start : (file : List ℕ) (rs : List JournalRecord) → Holds IsJournalBody file rs → HoldsFrom file 0 rs

@@ -1,11 +1,10 @@
 -- What the writer learns of a reader that it takes back.
-use Rattle.std.proofs.Common.{◌≡◌, ℕ, zero, suc, ◌+◌, ◌-◌, ◌<◌, ◌≤◌, List, [], ◌∷◌, ◌++◌, length, take, drop, refl, sym, ap, ◌∙◌, subst, arith}
+use Rattle.std.proofs.Common.{◌≡◌, ℕ, zero, suc, ◌-◌, ◌≤◌, List, [], ◌∷◌, ◌++◌, length, refl, ap, ◌∙◌, subst, arith}
 use Rattle.std.specs.Prelude.{All, Some, slice_get}
 use Rattle.std.proofs.lemmas.Option.{slice_get_within}
-use Rattle.std.proofs.lemmas.List.{take-append-drop, length-take-le}
 use Rattle.std.proofs.lemmas.List.Elements.{All-nil, All-cons}
 use Rattle.wire_defs.specs.PoolWords.{words_from, place_of, StartsWith}
-use Rattle.wire_defs.proofs.PoolWords.{count_below, place_below, place_stays}
+use Rattle.wire_defs.proofs.PoolWords.{count_below}
 use Rattle.pool_rule.specs.Rule.{Each, IsEntryBelow}
 use Rattle.jnl_pool.specs.Pooling.{Writing, IsHardenedEntry, IsNoteOf}
 
@@ -32,11 +31,3 @@ hardened_entry w count is g b =
 
 pub noted : (w : Writing) (note : List (List ℕ)) → StartsWith w.entries note → IsNoteOf w note
 noted w note s k e is = ap (λ l. slice_get l k) s.1 ∙ still_there note s.0 k e is
-
--- an entry's two first words at least stand below each place behind it
-pub place_rises : (first : ℕ) (entries : List (List ℕ)) (k h : ℕ) → k < h → h ≤ length entries → place_of first entries k + 2 ≤ place_of first entries h
-place_rises first entries k h lt le =
-    let size : length (take h entries) ≡ h = length-take-le h entries le in
-    let same : place_of first entries k ≡ place_of first (take h entries) k = ap (λ (l : List (List ℕ)). place_of first l k) (sym (take-append-drop h entries)) ∙ place_stays first (take h entries) (drop h entries) k (omega arith) in
-    let below = place_below first (take h entries) k (omega arith) in
-    omega arith

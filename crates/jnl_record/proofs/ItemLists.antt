@@ -6,7 +6,7 @@ use Rattle.global_defs.specs.Entry.{Update}
 use Rattle.global_defs.specs.Fields.{spelled_update, IsUpdate}
 use Rattle.journal_defs.specs.Journal.{Item, Rise, IsItem, spelled_item}
 use Rattle.jnl_record.specs.Heads.{AreItems}
-use Rattle.jnl_record.proofs.Chains.{Field, Reads, byte, half}
+use Rattle.repl_fields.proofs.Chains.{Field, Reads, byte, half}
 
 abbrev pub update : Field Update
 update = record { has = IsUpdate; spelled = spelled_update }

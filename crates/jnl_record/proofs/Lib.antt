@@ -1,4 +1,2 @@
-pub mod Chains
 pub mod ItemLists
-mod Pushes
 pub mod Records

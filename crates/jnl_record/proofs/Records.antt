@@ -14,10 +14,8 @@ use Rattle.gvn_model.specs.Items.{item_value}
 use Rattle.journal_defs.specs.Journal.{JournalRecord, Pini, Epoch, Pblk, Tcom, Start, Mark, Before, Part, Item, IsStart, IsPart, IsItem, Rise, IsInForm, IsJournalBody, spelled_item, spelled_record}
 use Rattle.jnl_record.specs.declared.parts.Head.{Head}
 use Rattle.jnl_record.specs.Heads.{IsHead, spelled_head, AreItems}
-use Rattle.jnl_record.proofs.Chains.{Field, Reads, byte, half, word, double, truth, image, and, none_as, out_as, some_as}
-
-tail : {x y : ℕ} {xs ys : List ℕ} → x ∷ xs ≡ y ∷ ys → xs ≡ ys
-tail e = cc
+use Rattle.repl_fields.proofs.Chains.{Field, Reads, byte, half, word, double, truth, image, and, none_as, out_as, some_as}
+use Rattle.repl_fields.proofs.Tagged.{tail}
 
 -- a record of one kind as its field behind the kind
 module _ {X : Type 0} (f : Field X) (kind : ℕ) (of : X → JournalRecord) (same : (x : X) → spelled_record (of x) ≡ kind ∷ f.spelled x)

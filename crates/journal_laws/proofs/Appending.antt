@@ -51,10 +51,10 @@ journal_same old new q (suc g) last js same h = (
 other_file : (h g q r : ℕ) → q < 8 → r < 8 → (h ≡ g → q ≡ r → ⊥) → journal_file h q ≢ journal_file g r
 other_file h g q r low low2 other same = other (omega arith) (omega arith)
 
-here : (s : Records) (r : ℕ) (ps : List Placed) → (with_journal s r ps).journal r ≡ s.journal r ++ ps
+pub here : (s : Records) (r : ℕ) (ps : List Placed) → (with_journal s r ps).journal r ≡ s.journal r ++ ps
 here s r ps = let yes : (r == r) ≡ true = grind (arith, nat_tests) in rw yes refl
 
-there : (s : Records) (r q : ℕ) (ps : List Placed) → q ≢ r → (with_journal s r ps).journal q ≡ s.journal q
+pub there : (s : Records) (r q : ℕ) (ps : List Placed) → q ≢ r → (with_journal s r ps).journal q ≡ s.journal q
 there s r q ps other = let differs : (q == r) ≡ false = grind (arith, nat_tests) in rw differs refl
 
 newest_more : (old new : Files) (r g last : ℕ) (older : List Placed) (newer xs : List JournalRecord) (bodies more : List Body)

@@ -63,7 +63,7 @@ starts_kept f (r ∷ rs) low h = elim (cases_Bool (f r)) [
 ]
 
 -- generations without records change nothing
-journal_empty : (files : Files) (r g last : ℕ) (js : List Placed) → records (files (journal_file (suc g) r)) ≡ Some [] → IsJournal files r g last js → IsJournal files r (suc g) last js
+pub journal_empty : (files : Files) (r g last : ℕ) (js : List Placed) → records (files (journal_file (suc g) r)) ≡ Some [] → IsJournal files r g last js → IsJournal files r (suc g) last js
 journal_empty files r g last js none h = (last, js, [], h, ([], none, tt), tt, refl, sym (append-nil js))
 
 journal_later : (files : Files) (r g more last : ℕ) (js : List Placed) → ((h : ℕ) → g < h → h ≤ more + g → records (files (journal_file h r)) ≡ Some []) → IsJournal files r g last js → IsJournal files r (more + g) last js

@@ -80,7 +80,7 @@ needs_logged journal p e any =
     let test = is_without (journal ++ p ∷ []) in
     list_any-append test e.after (p ∷ []) ∙ or_left (list_any test e.after) (list_any test (p ∷ [])) (any_more (is_without journal) test e.after (more_without journal p) any)
 
-is_other : (instance : List InstanceRecord) (t g : ℕ) (e : Chosen) (database : Blocks) (what : JournalRecord) → MayAppend e database what → epoch_in instance t g what [] ≡ None
+pub is_other : (instance : List InstanceRecord) (t g : ℕ) (e : Chosen) (database : Blocks) (what : JournalRecord) → MayAppend e database what → epoch_in instance t g what [] ≡ None
 is_other instance t g e database (Pblk i) may = refl
 is_other instance t g e database (Epoch m) may = absurd may
 is_other instance t g e database (Pini s) may = refl
@@ -183,7 +183,7 @@ longer of instance seq journal database e sound none t low = elim (cases_lt (len
         sound_front of seq (seq ++ e ∷ []) journal database (chosen instance u journal) (take-append-le (chosen instance u journal).number seq (e ∷ []) (omega arith)) (sound u within)
 
 -- `blocks` of the chosen epochs
-abbrev GrowAt : List Placed → Chosen → Chosen → Type 0
+abbrev pub GrowAt : List Placed → Chosen → Chosen → Type 0
 GrowAt journal d e = IsSome (first_without journal d) ⊎ (d.blocks ≤ e.blocks)
 
 grow_needs : (instance : List InstanceRecord) (t : ℕ) (journal : List Placed) (p : Placed) (e : Chosen) → chosen instance t (journal ++ p ∷ []) ≡ logged (chosen instance t journal) p
@@ -272,7 +272,7 @@ last_epoch-alike instance t u g (q ∷ qs) old low =
 pub none_past_cut : (instance : List InstanceRecord) (t g : ℕ) (journal : List Placed) → AllByRecursion (λ p. p.generation < g) journal → NoEpochPast t (instance ++ Cut t g ∷ []) journal
 none_past_cut instance t g journal old u low = ap (λ (o : Option Chosen). unwrap_or o (record { number = 0; blocks = 0; after = journal })) (last_epoch-alike instance t u g journal old low)
 
-eq_self : (n : ℕ) → (n == n) ≡ true
+pub eq_self : (n : ℕ) → (n == n) ≡ true
 eq_self n = grind (arith, nat_tests)
 
 is_there : (journal : List Placed) (g : ℕ) (s : Start) → s.before ≡ false → is_without (journal ++ record { generation = g; what = Pini s } ∷ []) (record { generation = g; what = Pini s }) ≡ true

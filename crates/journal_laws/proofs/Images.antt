@@ -10,14 +10,7 @@ use Rattle.journal_defs.specs.Journal.{Before, Pblk}
 use Rattle.journal_defs.specs.Sequence.{Placed}
 use Rattle.journal_defs.specs.Epochs.{Chosen, image_in, image_of, image_state, block_of, Blocks}
 use Rattle.journal_defs.specs.Undo.{SameBut, MayWrite, MayLog, logged, IsEarlier}
-
-or_assoc : {T : Type 0} (a b c : Option T) → option_or (option_or a b) c ≡ option_or a (option_or b c)
-or_assoc None b c = refl
-or_assoc (Some x) b c = refl
-
-or_none : {T : Type 0} (a : Option T) → option_or a None ≡ a
-or_none None = refl
-or_none (Some x) = refl
+use Rattle.journal_laws.proofs.Runs.{or_none, or_assoc}
 
 -- the oldest image of a block in records and later ones
 pub image_of-append : (ps qs : List Placed) (b : ℕ) → image_of (ps ++ qs) b ≡ option_or (image_of ps b) (image_of qs b)
@@ -34,7 +27,7 @@ shown e b image block = if nat_lt b e.blocks then Some (unwrap_or image block) e
 past : (e : Chosen) (b : ℕ) (i j : Option (List ℕ)) (x y : List ℕ) → e.blocks ≤ b → shown e b i x ≡ shown e b j y
 past e b i j x y far = grind (arith, nat_tests)
 
-has_image : (o : Option (List ℕ)) (x y : List ℕ) → IsSome o → unwrap_or o x ≡ unwrap_or o y
+pub has_image : (o : Option (List ℕ)) (x y : List ℕ) → IsSome o → unwrap_or o x ≡ unwrap_or o y
 has_image None x y h = cc
 has_image (Some i) x y h = refl
 
@@ -51,11 +44,11 @@ write_keeps e old new b same may = fun_ext (λ c. elim (cases_eq c b) [
   | inr other ↦ ap (shown e c (image_of e.after c)) (same c other)
 ])
 
-some_or : (o p : Option (List ℕ)) → IsSome o → IsSome (option_or o p)
+pub some_or : (o p : Option (List ℕ)) → IsSome o → IsSome (option_or o p)
 some_or None p h = cc
 some_or (Some i) p h = refl
 
-or_some : (o p : Option (List ℕ)) → IsSome p → IsSome (option_or o p)
+pub or_some : (o p : Option (List ℕ)) → IsSome p → IsSome (option_or o p)
 or_some None p h = h
 or_some (Some i) p h = refl
 

@@ -18,6 +18,7 @@ use Rattle.journal_defs.specs.Growth.{with_record, IsBefore}
 use Rattle.journal_laws.proofs.Runs as runs
 use Rattle.journal_laws.proofs.Targets as targets
 use Rattle.journal_laws.proofs.EveryTarget as every
+use Rattle.journal_laws.proofs.EveryTarget.{GrowAt as GrowBy}
 
 -- records that leave each number
 epoch_in-spared : (instance : List InstanceRecord) (x : InstanceRecord) (t h : ℕ) (what : JournalRecord) (ps : List Placed) → ((g m : ℕ) → spares g m x ≡ true)
@@ -47,10 +48,6 @@ SoundBy of seq journal database e = IsSome (first_without journal e) ⊎ Restore
 pub sound_instance : (of : Sequence → Globals) (instance : List InstanceRecord) (x : InstanceRecord) (seq : Sequence) (journal : List Placed) (database : Blocks)
     → ((g m : ℕ) → spares g m x ≡ true) → IsSoundRegion of instance seq journal database → IsSoundRegion of (instance ++ x ∷ []) seq journal database
 sound_instance of instance x seq journal database spare sound t low = subst (SoundBy of seq journal database) (sym (other_instance instance x t journal spare)) (sound t low)
-
--- `blocks` of two chosen epochs
-abbrev GrowBy : List Placed → Chosen → Chosen → Type 0
-GrowBy journal d e = IsSome (first_without journal d) ⊎ (d.blocks ≤ e.blocks)
 
 pub grow_instance : (instance : List InstanceRecord) (x : InstanceRecord) (n : ℕ) (journal : List Placed) → ((g m : ℕ) → spares g m x ≡ true)
     → BlocksGrow instance n journal → BlocksGrow (instance ++ x ∷ []) n journal

@@ -10,6 +10,7 @@ use Rattle.journal_defs.specs.Journal.{Part, Item}
 use Rattle.journal_defs.specs.Sequence.{in_mask, is_like, items_of, items_in, update_at, updates_from, updates_of, updates_by, REGIONS, entry_by, entry_among, entry_with}
 use Rattle.journal_defs.specs.Growth.{AreNumbered, AreTidy}
 use Rattle.journal_defs.specs.Split.{numbered, items_for, with_items, split, IsSplit}
+use Rattle.journal_laws.proofs.EveryTarget.{eq_self}
 
 -- the items of the regions, one region after another
 abbrev joined : (Update → ℕ) → List Item → List ℕ → List Item
@@ -30,10 +31,6 @@ once (suc (suc (suc (suc (suc zero))))) low = refl
 once (suc (suc (suc (suc (suc (suc zero)))))) low = refl
 once (suc (suc (suc (suc (suc (suc (suc zero))))))) low = refl
 once (suc (suc (suc (suc (suc (suc (suc (suc k)))))))) low = absurd (omega arith)
-
-joined_none : (region : Update → ℕ) (rs : List ℕ) → joined region [] rs ≡ []
-joined_none region [] = refl
-joined_none region (r ∷ rs) = joined_none region rs
 
 length_filter : (f : Item → Bool) (x : Item) (xs : List Item) → length (filter f (x ∷ xs)) ≡ (if f x then 1 else 0) + length (filter f xs)
 length_filter f x xs = elim (cases_Bool (f x)) [ inl h ↦ rw h (omega arith) | inr h ↦ rw h (omega arith) ]
@@ -152,9 +149,6 @@ is_part n mask t (x ∷ xs) p is = (x ∷ xs, (let same : Some (part_with n mask
 
 pub numbers : (region : Update → ℕ) (n mask : ℕ) (t : Transaction) → AreNumbered n (split region n mask t)
 numbers region n mask t r p is = let found = is_part n mask t (items_for region r t.updates) p is in ap (λ (q : Part). q.number) found.1
-
-eq_self : (n : ℕ) → (n == n) ≡ true
-eq_self n = grind (arith, nat_tests)
 
 like_made : (n m mask : ℕ) (t : Transaction) (xs ys : List Item) → is_like (part_with n mask t xs) (Some (part_with m mask t ys)) ≡ true
 like_made n m mask t xs ys = rw (eq_self mask, eq_self (length t.updates), eq_self t.origin.updater, eq_self t.origin.serial) refl

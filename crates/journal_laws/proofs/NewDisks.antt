@@ -22,7 +22,7 @@ use Rattle.journal_defs.specs.Fit.{HasFewNodes, SerialsRise, IsFitImage}
 abbrev without_journals : List InstanceRecord → Records
 without_journals instance = record { instance = instance; journal = λ r. [] }
 
-few_nodes : HasFewNodes []
+pub few_nodes : HasFewNodes []
 few_nodes zero = let none = globals.len-empty key_cmp (List ℕ) in omega (arith, none)
 few_nodes (suc k) = let none = globals.len-empty key_cmp (List ℕ) in omega (arith, none)
 
@@ -65,11 +65,11 @@ nothing_kept keep = globals.same_map key_total key_same (globals.retain_keys glo
         globals.get-retain_keys none_at_all keep k (λ x e. ap keep (sym (key_same k x e)))
         ∙ elim (keep k) as (λ b. (if b then globals.get none_at_all k else None) ≡ globals.get none_at_all k) [ true ↦ refl | false ↦ sym (globals.get-empty key_cmp k) ]
 
-no_elements : {X : Type 0} (xs : List X) → length xs ≡ 0 → [] ≡ xs
+pub no_elements : {X : Type 0} (xs : List X) → length xs ≡ 0 → [] ≡ xs
 no_elements [] none = refl
 no_elements (x ∷ xs) none = absurd (omega arith)
 
-no_cells : (g : Globals) → globals.len g ≡ 0 → [] ≡ cells_of g
+pub no_cells : (g : Globals) → globals.len g ≡ 0 → [] ≡ cells_of g
 no_cells g none = ap (λ (es : List (Key × List ℕ)). map (λ e. (encoded e.0, e.1)) es) (no_elements (globals.entries g) (sym (globals.len-entries g) ∙ none))
 
 -- block 0 alone, and it's whole

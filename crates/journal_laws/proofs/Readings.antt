@@ -74,10 +74,6 @@ regions_one (r ∷ rs) (q ∷ qs) same h =
     let first : r ≡ q = both.0 in
     cc
 
-nil_right : (n : ℕ) (a : List ℕ) → a ≡ a ++ []
-nil_right n [] = refl
-nil_right n (x ∷ xs) = ap (λ (l : List ℕ). x ∷ l) (nil_right n xs)
-
 instance_one : (r q : InstanceRecord) → instance.IsInForm r → instance.IsInForm q → instance.spelled_record r ≡ instance.spelled_record q → r ≡ q
 instance_one (Create n rs) (Create m qs) p k h =
     let front = short_one n m (length rs ∷ flat_map spelled_region rs) (length qs ∷ flat_map spelled_region qs)

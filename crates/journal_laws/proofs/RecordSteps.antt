@@ -1,7 +1,6 @@
 -- Images of fit disks that gain one record.
-use Rattle.std.proofs.Common.{◌≡◌, ◌≢◌, ◌⊎◌, inl, inr, ℕ, ◌≤◌, ◌<◌, ◌==◌, true, false, List, [], ◌∷◌, ◌++◌, length, take, Option, None, refl, sym, ◌∙◌, ap, subst, arith, length-take-le}
+use Rattle.std.proofs.Common.{◌≡◌, ◌⊎◌, inl, inr, ℕ, ◌≤◌, ◌<◌, true, List, [], ◌∷◌, ◌++◌, length, take, Option, None, refl, sym, ◌∙◌, ap, subst, length-take-le}
 use Rattle.std.proofs.lemmas.Bool.{cases_eq}
-use Rattle.std.proofs.lemmas.Bool.Decides.{nat_tests}
 use Rattle.std.specs.List.{AllByRecursion}
 use Rattle.std.specs.Option.{option_or}
 use Rattle.disk_defs.specs.Disk.{Files}
@@ -26,6 +25,7 @@ use Rattle.journal_laws.proofs.FrontFacts as facts
 use Rattle.journal_laws.proofs.Drawing.{same_regions}
 use Rattle.journal_laws.proofs.Naming as naming
 use Rattle.journal_laws.proofs.ImageSteps.{all_both}
+use Rattle.journal_laws.proofs.Appending.{here as here_more, there as elsewhere}
 
 all_map : {X : Type 0} (P Q : X → Type 0) (xs : List X) → ((x : X) → P x → Q x) → AllByRecursion P xs → AllByRecursion Q xs
 all_map P Q [] each all = tt
@@ -96,13 +96,6 @@ pub reign : (old new : Files) (s : Records) (seq : Sequence) (x : Reign) → IsS
     → ((r : ℕ) → r < length (regions s.instance) → new (database_file r) ≡ old (database_file r)) → IsSoundImage new (with_record s (Reigned x)) seq
 reign old new s seq x image some none late held clean databases =
     instance_record old new s seq (Reigned x) image some (λ g m. refl) refl (runs.reign s seq x image.sequence none late) held (clean (length seq)) databases
-
--- one region's journal is longer, the others' are as they were
-here_more : (s : Records) (r : ℕ) (ps : List Placed) → (with_journal s r ps).journal r ≡ s.journal r ++ ps
-here_more s r ps = let yes : (r == r) ≡ true = grind (arith, nat_tests) in rw yes refl
-
-elsewhere : (s : Records) (r q : ℕ) (ps : List Placed) → q ≢ r → (with_journal s r ps).journal q ≡ s.journal q
-elsewhere s r q ps other = let differs : (q == r) ≡ false = grind (arith, nat_tests) in rw differs refl
 
 -- a record that is no part leaves the sequence
 same_parts : (s : Records) (r n q : ℕ) (p : Placed) → ((n : ℕ) → part_in s.instance n p.generation p.what ≡ None) → parts (with_journal s r (p ∷ [])) n q ≡ parts s n q

@@ -14,7 +14,7 @@ use Rattle.journal_defs.specs.Surviving.{survives, spares, spares_start, reigns}
 use Rattle.journal_defs.specs.Sequence.{Placed, Records, parts, part_in, part_of, REGIONS, entry_by, entry_among, entry_with, entry, EntriesFrom, IsSequence}
 use Rattle.journal_defs.specs.Growth.{with_record, placed, with_parts, IsBefore, NonePast, AreNumbered}
 
-or_assoc : {T : Type 0} (a b c : Option T) → option_or (option_or a b) c ≡ option_or a (option_or b c)
+pub or_assoc : {T : Type 0} (a b c : Option T) → option_or (option_or a b) c ≡ option_or a (option_or b c)
 or_assoc None b c = refl
 or_assoc (Some x) b c = refl
 

@@ -129,6 +129,3 @@ neither false y a b = b
 pub piece_more : (fed_now : Bool) (old new line more : List ℕ) → IsPiece line → Moves fed_now old new line more → IsPiece more
 piece_more fed_now old new line more plain m =
     ap (list_any is_feed) m.line ∙ list_any-append is_feed line m.piece ∙ neither (list_any is_feed line) (list_any is_feed m.piece) plain m.plain
-
-pub line_grows : (old new line more : List ℕ) → Moves false old new line more → length line < length more
-line_grows old new line more m = let some = m.rest.1 in omega (arith, some, ap length m.line, length-append line m.piece)

@@ -9,7 +9,7 @@ use Rattle.jnl_record.specs.declared.placed.PlacedRecord.{PlacedRecord}
 use Rattle.jnl_record.specs.Values.{record_value, placed_value}
 
 -- the last epoch of the last records is that of all
-last_there : (rs : List InstanceRecord) (t : ℕ) (ps qs : List Placed) (e : Chosen) → last_epoch rs t qs ≡ Some e → last_epoch rs t (ps ++ qs) ≡ Some e
+pub last_there : (rs : List InstanceRecord) (t : ℕ) (ps qs : List Placed) (e : Chosen) → last_epoch rs t qs ≡ Some e → last_epoch rs t (ps ++ qs) ≡ Some e
 last_there rs t [] qs e h = h
 last_there rs t (p ∷ ps) qs e h = ap (λ (o : Option Chosen). option_or o (epoch_in rs t p.generation p.what (ps ++ qs))) (last_there rs t ps qs e h)
 

@@ -16,7 +16,6 @@ use Rattle.journal_defs.specs.Journal.{Start}
 use Rattle.journal_defs.specs.Numbers.{lost_file}
 use Rattle.journal_defs.specs.Sequence.{Placed, Records, IsSequence}
 use Rattle.journal_laws.proofs.Drawing as drawing
-use Rattle.region_journals.proofs.Unbroken.{broken_none}
 use Rattle.site_defs.specs.Behind.{IsStanding, IsSiteWith}
 use Rattle.site_defs.specs.Contents.{Contents, NO_LEFTOVER, bare}
 use Rattle.site_defs.specs.Opening.{cut_with, with_starts, starts_in}
@@ -31,6 +30,7 @@ use Rattle.site_store.proofs.Rolled.{site_with_lost}
 use Rattle.mupip_rollback.specs.Cutting.{MaySetAside, HasSetAside, next_lost}
 use Rattle.mupip_rollback.specs.Rolling.{MayStandRolled}
 use Rattle.mupip_rollback.proofs.Sites.{standing_of}
+use Rattle.block_laws.proofs.Unbroken.{broken_none}
 
 -- begun in no region
 starts_zero : (c : Contents) → with_starts 0 c ≡ c

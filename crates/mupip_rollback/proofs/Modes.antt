@@ -12,10 +12,11 @@ use Rattle.site_defs.specs.Behind.{IsStanding}
 use Rattle.site_defs.specs.Contents.{Contents, Leftover, Standing}
 use Rattle.site_defs.specs.Opening.{with_mode}
 use Rattle.site_defs.specs.Stands.{IsSite, HasLeft}
-use Rattle.site_store.proofs.Found.{instance_one, site_instance}
+use Rattle.site_store.proofs.Found.{site_instance}
 use Rattle.mupip_rollback.specs.Setting.{MayHaveMode, MayHaveModeLeft, MayBeSet, MayBeSetWith, IsSetIn, StillNoneNeeds}
 use Rattle.mupip_rollback.proofs.Moded.{site_still, left_still, site_more, left_more, none_more, standing_more, standing_either, contents_either}
 use Rattle.mupip_rollback.proofs.Sites.{some_left}
+use Rattle.site_files.proofs.WhatIsRead.{instance_one}
 
 abbrev pub Moments : View → View → ℕ → Bool → Files → Type 0
 Moments u w region before files = (c : Contents) → IsSite files c → AtEachMoment u w (MayBeSet u region before)

@@ -13,13 +13,7 @@ use Rattle.site_store.specs.Opening.{EachStands, MayBeOpenAs, MayBeOpenWithAs}
 use Rattle.site_store.specs.Site.{IsOpen}
 use Rattle.mupip_rollback.specs.Rolling.{StandsFor, MayBeRecoveredAs, MayBeRecoveredWithAs}
 use Rattle.mupip_rollback.proofs.Sites.{one_site, one_standing, some_left, standing_of}
-
--- what is known of the opening
-abbrev pub Moments : (anew : Bool) → View → View → Files → Type 0
-Moments anew u v files = (c : Contents) (left : Leftover) → IsSite files c → HasLeft files c left → AtEachMoment u v (MayBeOpenAs anew u left.broken)
-
-abbrev pub Lefts : (anew : Bool) → View → View → Files → Type 0
-Lefts anew u v files = (c : Contents) → IsSite files c → AtEachMoment u v (MayBeOpenWithAs anew u)
+use Rattle.site_store.proofs.Loaded.{Moments, Lefts}
 
 abbrev pub StandsOpen : (anew : Bool) → Option Files → Files → Type 0
 StandsOpen anew now files = (c : Contents) (left : Leftover) → IsSite files c → HasLeft files c left → IfSome now (λ f. (o : Contents) × MayOpenAs anew left.broken c o × IsSite f o)

@@ -1,5 +1,5 @@
 -- Each kind of step keeps the rule.
-use Rattle.std.proofs.Common.{◌≡◌, ◌≢◌, ◌⊎◌, ℕ, zero, suc, ◌+◌, ◌%◌, ◌<◌, ◌≤◌, List, [], ◌∷◌, ◌++◌, length, set, replicate, Bool, true, false, true≢false, refl, sym, ap, ◌∙◌, subst, ⊎_elim, inl, inr, arith, length-set, get_or-set_same, get_or-set_other, lt_of_not-le, append_assoc, append-nil, add-zero}
+use Rattle.std.proofs.Common.{◌≡◌, ◌≢◌, ◌⊎◌, ℕ, zero, suc, ◌+◌, ◌%◌, ◌<◌, ◌≤◌, List, [], ◌∷◌, ◌++◌, length, set, replicate, Bool, true, false, refl, sym, ap, ◌∙◌, subst, ⊎_elim, inl, inr, arith, length-set, get_or-set_same, get_or-set_other, lt_of_not-le, append_assoc, append-nil, add-zero}
 use Rattle.std.specs.Prelude.{slice_index, ◌==◌, if◌then◌else◌, map, max}
 use Rattle.std.proofs.Math.Nat.{mod-eq_of_lt}
 use Rattle.std.proofs.lemmas.Grind.{get_or-set_at}
@@ -16,10 +16,7 @@ use Rattle.wire_defs.specs.PoolWords.{bytes_in, words_from, word_count, count_be
 use Rattle.wire_defs.proofs.PoolWords.{grows, stays, boundary_stays, at_stays, starts_stays, starts_same, length_word, past_entry, entry_at, length-claimed, number_is, boundary_number}
 use Rattle.pool_rule.specs.Rule.{IsEntryBelow, Each, IsHeld, Agrees, Knows, Owns, Pooled, Within, blank, writer, reader, end_of, is_entry, moved, number_at, word_in, Claimed, Stored, Hardened, SawHard, SawWord, SawClaim, Placed, Settled}
 use Rattle.pool_rule.proofs.Each.{each_set, each_snoc, each_map, each_snoc_one}
-use Rattle.pool_rule.proofs.Whole.{Stands, is_got, below_stays}
-
-off : false ≡ true → ⊥
-off e = true≢false (sym e)
+use Rattle.pool_rule.proofs.Whole.{Stands, is_got, below_stays, off}
 
 module _ (n first : ℕ) where
   abbrev St : Type 0

@@ -17,7 +17,7 @@ Stands words from x = from ≤ x.0 → (x.0 < length words) × (x.1 ≡ slice_in
 pub below_stays : (first : ℕ) (log now : List (List ℕ)) (h h' : ℕ) → StartsWith now log → h ≤ h' → (g : ℕ × List ℕ) → IsEntryBelow first log h g → IsEntryBelow first now h' g
 below_stays first log now h h' longer up g w = (w.0, w.1 ++ longer.0, longer.1 ∙ ap (λ l. l ++ longer.0) w.2 ∙ append_assoc w.0 (g.1 ∷ w.1) longer.0, w.3, (let l = w.4 in omega arith))
 
-off : false ≡ true → ⊥
+pub off : false ≡ true → ⊥
 off e = true≢false (sym e)
 
 and_left : (a b : Bool) → (a && b) ≡ true → a ≡ true

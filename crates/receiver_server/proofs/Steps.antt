@@ -6,16 +6,15 @@ use Rattle.wire_defs.specs.Frames.{Frame, Hello, Resume, RollbackFirst, History,
 use Rattle.repl_wire.proofs.Feeding.{stream_more, all_more}
 use Rattle.ship_defs.specs.Directions.{Admitted, refused, begins_none, behind_last}
 use Rattle.ship_defs.specs.Hearing as ship
-use Rattle.ship_defs.specs.Hearing.{Purpose, Heard, IsOver, Fits, entered, with_entry, with_reign, behind_resume, HasUnfit}
+use Rattle.ship_defs.specs.Hearing.{Purpose, Heard, IsOver, Fits, entered, with_entry, with_reign, behind_resume}
 use Rattle.ship_defs.specs.Arrivals.{Arrival, arrivals, arrived, told_reign}
 use Rattle.receiver_server.specs.Hearings.{reign_behind, MayCome, behind}
-use Rattle.receiver_server.specs.Answers.{IsHearAnswer}
 use Rattle.receiver_server.specs.Incomings.{Incoming, Reads, begins as reads_on, begins_none as reads_none, HasRead, with_piece, Pulls}
 use Rattle.receiver_server.specs.declared.step.HearError.{HearError}
 use Rattle.receiver_server.specs.declared.step.HearError.TheVariants.{Cut, BadFrame, NoMemory}
 use Rattle.receiver_server.specs.declared.step.Step.{Step}
 use Rattle.receiver_server.specs.declared.step.Step.TheVariants.{Received, Answered, Heard as HeardOne, Waits, Over, Ended}
-use Rattle.receiver_server.specs.Listenings.{Listening, listening, told_last, HasTail, IsHearing, HasHeard, HasPut, IsUnfit, IsUnfitBehind, Hears, Does, StepTells}
+use Rattle.receiver_server.specs.Listenings.{Listening, listening, told_last, HasTail, IsHearing, HasHeard, HasPut, IsUnfitBehind, Hears, StepTells}
 
 admitted_push : {S : Type 0} (A : S → Frame → S → Type 0) (s : S) (fs : List Frame) (h now : S) (f : Frame) → Admitted A s fs h → A h f now → Admitted A s (fs ++ f ∷ []) now
 admitted_push A s [] h now f m may = (now, subst (λ t. A t f now) m may, refl)
@@ -50,11 +49,11 @@ offset_push fs f =
 
 -- the reign of a HISTORY is known to be the last one
 
-behind_none : (p : Purpose) → reign_behind (behind_resume p) ≡ None
+pub behind_none : (p : Purpose) → reign_behind (behind_resume p) ≡ None
 behind_none ship.Asks = refl
 behind_none ship.Ships = refl
 
-either_shipped : (h : Heard) (r : Reign) (b : Bool) → (if b then with_reign h r else with_entry h).last ≡ ship.Shipped
+pub either_shipped : (h : Heard) (r : Reign) (b : Bool) → (if b then with_reign h r else with_entry h).last ≡ ship.Shipped
 either_shipped h r true = refl
 either_shipped h r false = refl
 
@@ -135,10 +134,6 @@ unfit_one begun s f waiting received put frames is never h =
       refl,
     )
 
-pub unfit_first : (begun : Heard) (s : Listening) (received : List ℕ) (put : List Arrival) (frames : List Frame)
-    → IsUnfit s → IsHearing begun s received put frames → IsUnfitBehind s.purpose begun frames received false s.offset
-unfit_first begun s received put frames u h = unfit_one begun s u.0 u.1 received put frames u.2 u.3 h
-
 -- what a step tells of a frame that was heard
 
 pub tells_hears : (a : Step) (f : Frame) (frames : List Frame) → StepTells a f → Hears (Ok a) frames (frames ++ f ∷ [])
@@ -148,30 +143,6 @@ tells_hears HeardOne f frames t = (f, t, refl)
 tells_hears Waits f frames t = absurd t
 tells_hears Over f frames t = absurd t
 tells_hears Ended f frames t = absurd t
-
-pub tells_does : (a : Step) (f : Frame) (s t : Listening) → StepTells a f → HasHeard f s t → Does (Ok a) s t
-tells_does Received f s t tell h = absurd tell
-tells_does (Answered answer) f s t tell h = subst (λ (x : Frame). HasHeard x s t) tell h
-tells_does HeardOne f s t tell h = (f, tell, h)
-tells_does Waits f s t tell h = absurd tell
-tells_does Over f s t tell h = absurd tell
-tells_does Ended f s t tell h = absurd tell
-
-pub tells_hear : (a : Step) (f : Frame) → StepTells a f → IsHearAnswer (Ok a)
-tells_hear Received f t = t
-tells_hear (Answered answer) f t = tt
-tells_hear HeardOne f t = tt
-tells_hear Waits f t = t
-tells_hear Over f t = t
-tells_hear Ended f t = t
-
-pub fits_of : (p : Purpose) (h : Heard) (f : Frame) → IsFrame f → MayCome h f → Fits p h f (behind p h f)
-fits_of p h (Hello version name history) form may = absurd may
-fits_of p h (Resume n) form may = (may.0, may.1, refl)
-fits_of p h (RollbackFirst n) form may = (may.0, form.fields.0, may.1, refl)
-fits_of p h (History r) form may = (may.0, may.1, refl)
-fits_of p h (Entry n t) form may = (may.0, may.1, refl)
-fits_of p h (Bye n) form may = (may.0, may.1, refl)
 
 none_over : (f : Frame) (h : Heard) → MayCome (record h { last = ship.Over }) f → ⊥
 none_over (Hello version name history) h may = may
@@ -187,7 +158,7 @@ over_none f h over may = none_over f h (subst (λ (l : ship.Last). MayCome (reco
 
 -- where nothing waits, these are all the whole frames
 
-alone : (frames waiting : List Frame) → waiting ≡ [] → frames ++ waiting ≡ frames
+pub alone : (frames waiting : List Frame) → waiting ≡ [] → frames ++ waiting ≡ frames
 alone frames waiting none = ap (λ (l : List Frame). frames ++ l) none ∙ append-nil frames
 
 are_alone : (begun : Heard) (s : Listening) (received : List ℕ) (put : List Arrival) (frames : List Frame) → s.incoming.waiting ≡ [] → (h : IsHearing begun s received put frames)

@@ -11,6 +11,7 @@ use Rattle.receiver_server.specs.declared.step.HearError.{HearError}
 use Rattle.receiver_server.specs.declared.step.HearError.TheVariants as hear
 use Rattle.receiver_server.specs.declared.step.Step.{Step}
 use Rattle.receiver_server.specs.declared.step.Step.TheVariants as steps
+use Rattle.receiver_server.proofs.Steps.{alone}
 
 -- the globals with the updates of frames
 abbrev globals_behind : Globals → List Frame → Globals
@@ -56,9 +57,6 @@ whole_all p h now g frames last bytes are admitted over places = record {
 }
 
 -- where nothing waits, these are all the whole frames
-
-alone : (frames waiting : List Frame) → waiting ≡ [] → frames ++ waiting ≡ frames
-alone frames waiting none = ap (λ (l : List Frame). frames ++ l) none ∙ append-nil frames
 
 are_alone : (begun : Heard) (s : Listening) (received : List ℕ) (put : List Arrival) (frames : List Frame) → (h : IsHearing begun s received put frames) → s.incoming.waiting ≡ [] → s.incoming.fresh ≡ []
     → AreFrames received frames h.rest

@@ -49,11 +49,11 @@ no_images_past j files r past = ap (λ (x : Standing). image_records (changed_im
 
 -- ---- a region with its images logged
 
-placed_same : (g : ℕ) (is : List Before) → placed_images g is ≡ map (in_generation g) (image_records is)
+pub placed_same : (g : ℕ) (is : List Before) → placed_images g is ≡ map (in_generation g) (image_records is)
 placed_same g [] = refl
 placed_same g (i ∷ is) = ap (λ (l : List Placed). in_generation g (Pblk i) ∷ l) (placed_same g is)
 
-needs_more : (instance : List InstanceRecord) (t g : ℕ) (journal : List Placed) (is : List Before) → NeedsForward instance t journal → NeedsForward instance t (journal ++ map (in_generation g) (image_records is))
+pub needs_more : (instance : List InstanceRecord) (t g : ℕ) (journal : List Placed) (is : List Before) → NeedsForward instance t journal → NeedsForward instance t (journal ++ map (in_generation g) (image_records is))
 needs_more instance t g journal [] needs = subst (NeedsForward instance t) (sym (append-nil journal)) needs
 needs_more instance t g journal (i ∷ is) needs =
     subst (NeedsForward instance t) (append_assoc journal (in_generation g (Pblk i) ∷ []) (map (in_generation g) (image_records is)))

@@ -25,6 +25,7 @@ use Rattle.block_laws.specs.Several.{MayAppendAll, is_tcom, marks_in, epoch_of}
 use Rattle.block_laws.proofs.Waiting as waiting
 use Rattle.region_journals.specs.Fronts.{IsNewestFile, HasFirst}
 use Rattle.region_epochs.specs.Kept.{image_records, IsEpochFront, Images, WithEpoch, HasMore}
+use Rattle.block_laws.proofs.Waiting.{none_taken}
 
 -- the words of the laws
 outside : (g n : ℕ) (d f : Files) → SameOutside (IsNewestFile g n) d f → SameOutside (laws.IsNewestFile g n) d f
@@ -35,10 +36,7 @@ first_few g n hard waiting kept f first = record { each = first.each }
 
 -- ---- records that are spelled otherwise
 
-pub same_more : (s : Records) (a b : ℕ → List Placed) → ((r : ℕ) → a r ≡ b r) → with_more s a ≡ with_more s b
-same_more s a b same = ap (with_more s) (fun_ext same)
-
-with_none : (s : Records) → with_more s (λ r. []) ≡ s
+pub with_none : (s : Records) → with_more s (λ r. []) ≡ s
 with_none s = ap (λ (j : ℕ → List Placed). record { instance = s.instance; journal = j }) (fun_ext (λ r. append-nil (s.journal r)))
 
 -- ---- images alone
@@ -98,10 +96,6 @@ module _ (d f : Files) (s : Records) (seq : Sequence) (g : ℕ) (newer : ℕ →
 
 images_taken : (k : ℕ) (is : List Before) → take k (image_records is) ≡ image_records (take k is)
 images_taken k is = take-map (λ i. Pblk i) k is
-
-none_taken : (k : ℕ) → take {A = JournalRecord} k [] ≡ []
-none_taken zero = refl
-none_taken (suc k) = refl
 
 none_of : (k : ℕ) (l : List JournalRecord) → l ≡ [] → take k l ≡ []
 none_of k l is = ap (take k) is ∙ none_taken k

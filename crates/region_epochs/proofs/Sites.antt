@@ -28,7 +28,8 @@ use Rattle.region_store.specs.Joined.{Joined, region_at}
 use Rattle.region_epochs.specs.Files.{IsDatabaseFile}
 use Rattle.region_epochs.specs.Flushed.{AreCutShort}
 use Rattle.region_epochs.specs.Kept.{image_records, EachIsSound, IsStillSound}
-use Rattle.region_epochs.proofs.Fronts.{same_again, with_images, with_epochs, still_newest, more_images, more_epochs, no_more, no_tcoms, same_more}
+use Rattle.region_epochs.proofs.Fronts.{same_again, with_images, with_epochs, still_newest, more_images, more_epochs, no_more, no_tcoms}
+use Rattle.block_laws.proofs.Waiting.{others_same as same_more}
 
 -- no entry came
 none_past_more : (s : Records) (seq : Sequence) (g : ℕ) (more : ℕ → List JournalRecord) → NonePast (length seq) s → ((r : ℕ) → filter is_tcom (more r) ≡ []) → NonePast (length seq) (with_more s (λ r. map (in_generation g) (more r)))

@@ -1,5 +1,5 @@
 -- The images of one region after another, on their way into the journals.
-use Rattle.std.proofs.Common.{◌≡◌, ◌≢◌, ◌≤◌, ◌<◌, ◌+◌, ◌==◌, ℕ, Bool, true, false, nat_lt, List, [], ◌++◌, length, Some, None, Option, inl, inr, refl, sym, ◌∙◌, ap, subst, arith, append-nil}
+use Rattle.std.proofs.Common.{◌≡◌, ◌≤◌, ◌<◌, ◌+◌, ℕ, Bool, true, false, nat_lt, List, [], ◌++◌, length, Some, None, Option, inl, inr, refl, sym, ◌∙◌, ap, subst, arith, append-nil}
 use Rattle.std.specs.Prelude.{IfSome, if◌then◌else◌}
 use Rattle.std.proofs.Math.Path.{fun_ext}
 use Rattle.std.proofs.lemmas.Bool.{cases_eq, cases_lt}
@@ -18,18 +18,7 @@ use Rattle.region_store.specs.Joined.{Joined, region_at}
 use Rattle.region_epochs.specs.Kept.{images_in, image_records}
 use Rattle.region_epochs.proofs.Blocks.{no_images_past}
 use Rattle.region_epochs.proofs.Logs.{JournalsStay, told_then, apart}
-
-here_all : (region : ℕ) (rs : List JournalRecord) → in_region region rs region ≡ rs
-here_all region rs = ap (λ (b : Bool). if b then rs else []) alike
-  where
-    alike : (region == region) ≡ true
-    alike = grind (arith, nat_tests)
-
-elsewhere_none : (region r : ℕ) (rs : List JournalRecord) → r ≢ region → in_region region rs r ≡ []
-elsewhere_none region r rs other = ap (λ (b : Bool). if b then rs else []) unlike
-  where
-    unlike : (r == region) ≡ false
-    unlike = grind (arith, nat_tests, other)
+use Rattle.region_journals.proofs.Logged.{here_all, elsewhere_none}
 
 -- what waits in the first k regions
 abbrev pub up_to : ℕ → (ℕ → List JournalRecord) → ℕ → List JournalRecord

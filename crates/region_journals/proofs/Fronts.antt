@@ -1,53 +1,32 @@
 -- Files whose newest journals have the first few of the records that wait.
-use Rattle.std.proofs.Common.{◌≡◌, ◌≢◌, ◌≤◌, ◌<◌, ℕ, zero, suc, List, [], ◌∷◌, ◌++◌, length, map, take, Some, None, refl, sym, ◌∙◌, ap, subst, arith, append_assoc, append-nil}
+use Rattle.std.proofs.Common.{◌≡◌, ◌≢◌, ◌≤◌, ◌<◌, ℕ, zero, suc, List, [], ◌∷◌, ◌++◌, length, take, Some, None, refl, sym, ◌∙◌, ap, subst, arith, append-nil}
 use Rattle.std.specs.Prelude.{Option}
-use Rattle.std.specs.List.{AllByRecursion, AllZip, cons_option}
+use Rattle.std.specs.List.{AllByRecursion, cons_option}
 use Rattle.std.specs.Option.{option_map}
-use Rattle.std.proofs.lemmas.List.{map-append}
 use Rattle.disk_defs.specs.Disk.{Files}
 use Rattle.disk_defs.specs.Frames.{SameOutside}
-use Rattle.disk_defs.specs.Gates.{Body, records}
+use Rattle.disk_defs.specs.Gates.{records}
 use Rattle.global_defs.specs.Entry.{Sequence}
 use Rattle.journal_defs.specs.Numbers.{INSTANCE, database_file, journal_file, lost_file, broken_file}
-use Rattle.journal_defs.specs.Journal.{JournalRecord, Pini, Epoch, Pblk, Tcom, Part, IsJournalBody, IsNoPini, BeginsWithPini}
-use Rattle.journal_defs.specs.Instance.{InstanceRecord, Create, Reigned, Cut, Map, Mode, IsInstanceBody, regions, site_name}
+use Rattle.journal_defs.specs.Journal.{JournalRecord, Tcom, Part, IsNoPini}
+use Rattle.journal_defs.specs.Instance.{regions, site_name}
 use Rattle.journal_defs.specs.Broken.{broken, broken_text}
 use Rattle.journal_defs.specs.Sequence.{Placed, Records}
-use Rattle.journal_defs.specs.Stands.{Holds, IsInstance, IsJournal, last_began, in_generation, AreRecords}
+use Rattle.journal_defs.specs.Stands.{IsInstance, IsJournal, AreRecords}
 use Rattle.journal_defs.specs.Growth.{NonePast, AreEntries, appended, placed, tcoms, with_more}
 use Rattle.journal_defs.specs.Sound.{NoEpochPast}
 use Rattle.journal_defs.specs.Clean.{AreClean}
 use Rattle.journal_defs.specs.Fit.{IsSoundImage, HasFewNodes, IsAtHome}
-use Rattle.journal_laws.proofs.Appending.{journal_same, first_of_them}
-use Rattle.journal_laws.proofs.ImageSteps.{all_both, all_take, entries_appended}
-use Rattle.journal_laws.proofs.Readings.{holds_one, journal_body}
+use Rattle.journal_laws.proofs.Appending.{first_of_them}
+use Rattle.journal_laws.proofs.ImageSteps.{all_take, entries_appended}
 use Rattle.region_journals.specs.Fronts.{IsNewestFile, HasFirst, AreNewest, AreInside}
-use Rattle.region_journals.proofs.Unbroken.{broken_none}
-
--- a site has at most eight regions
-few_by : (rs : List InstanceRecord) (bodies : List Body) → AllZip IsInstanceBody bodies rs → length (regions rs) ≤ 8
-few_by [] bodies zip = omega arith
-few_by (Create name named ∷ rs) [] zip = absurd zip
-few_by (Create name named ∷ rs) (b ∷ bodies) zip = zip.0.form.2
-few_by (Reigned r ∷ rs) bodies zip = omega arith
-few_by (Cut n g ∷ rs) bodies zip = omega arith
-few_by (Map region star name ∷ rs) bodies zip = omega arith
-few_by (Mode region before ∷ rs) bodies zip = omega arith
-
-pub few_regions : (files : Files) (s : Records) → AreRecords files s → length (regions s.instance) ≤ 8
-few_regions files s held = few_by s.instance held.instance.bodies.0 held.instance.bodies.2
+use Rattle.block_laws.proofs.Waiting.{few_regions, journal_more}
+use Rattle.block_laws.proofs.Unbroken.{broken_none}
 
 -- parts begin no generation
 pub no_pini : (ps : List (ℕ → Option Part)) (r : ℕ) → AllByRecursion IsNoPini (tcoms ps r)
 no_pini [] r = tt
 no_pini (p ∷ ps) r = elim (p r) as (λ o. AllByRecursion IsNoPini (cons_option (option_map (λ x. Tcom x) o) (tcoms ps r))) [ None ↦ no_pini ps r | Some x ↦ (tt, no_pini ps r) ]
-
-begins_more : (r g last : ℕ) (newer xs : List JournalRecord) → newer ≢ [] → BeginsWithPini r g last newer → AllByRecursion IsNoPini xs → BeginsWithPini r g last (newer ++ xs)
-begins_more r g last [] xs begun begins none = absurd (begun refl)
-begins_more r g last (Pini s ∷ rs) xs begun begins none = (begins.0, begins.1, begins.2, all_both IsNoPini rs xs begins.3 none)
-begins_more r g last (Epoch m ∷ rs) xs begun begins none = absurd begins
-begins_more r g last (Pblk b ∷ rs) xs begun begins none = absurd begins
-begins_more r g last (Tcom p ∷ rs) xs begun begins none = absurd begins
 
 -- a region without parts gains none
 none_appended : (g n r : ℕ) (ps : List (ℕ → Option Part)) → AreInside n ps → n ≤ r → appended g ps r ≡ []
@@ -57,27 +36,6 @@ none_appended g n r (p ∷ ps) inside past = ap (λ (o : Option Part). placed g 
 none_taken : (k : ℕ) → take {A = Placed} k [] ≡ []
 none_taken zero = refl
 none_taken (suc k) = refl
-
--- one region's journal, with more records
-journal_more : (d f : Files) (r g last : ℕ) (journal : List Placed) (newer xs : List JournalRecord) → IsJournal d r (suc g) last journal → ((h : ℕ) → h ≤ g → f (journal_file h r) ≡ d (journal_file h r))
-    → Holds IsJournalBody (d (journal_file (suc g) r)) newer → newer ≢ [] → AllByRecursion IsNoPini xs → Holds IsJournalBody (f (journal_file (suc g) r)) (newer ++ xs)
-    → (l : ℕ) × IsJournal f r (suc g) l (journal ++ map (in_generation (suc g)) xs)
-journal_more d f r g last journal newer xs is same now begun none holds =
-    let found : is.2 ≡ newer = holds_one IsJournalBody (d (journal_file (suc g) r)) is.2 newer (λ b x y p q. journal_body b x y p q) is.4 now in
-    let whole : journal ≡ is.1 ++ map (in_generation (suc g)) newer = is.7 ∙ ap (λ (l : List JournalRecord). is.1 ++ map (in_generation (suc g)) l) found in (
-      last_began is.0 (suc g) (newer ++ xs),
-      (
-        is.0,
-        is.1,
-        newer ++ xs,
-        journal_same d f r g is.0 is.1 same is.3,
-        holds,
-        begins_more r (suc g) is.0 newer xs begun (subst (BeginsWithPini r (suc g) is.0) found is.5) none,
-        refl,
-        ap (λ (l : List Placed). l ++ map (in_generation (suc g)) xs) whole ∙ append_assoc is.1 (map (in_generation (suc g)) newer) (map (in_generation (suc g)) xs)
-            ∙ ap (λ (l : List Placed). is.1 ++ l) (sym (map-append (in_generation (suc g)) newer xs)),
-      ),
-    )
 
 module _ (d f : Files) (s : Records) (seq : Sequence) (g : ℕ) (newer : ℕ → List JournalRecord) (ps : List (ℕ → Option Part)) (kept : ℕ → ℕ)
     (image : IsSoundImage d s seq) (newest : AreNewest d s g newer) (none : NonePast (length seq) s) (inside : AreInside (length (regions s.instance)) ps)

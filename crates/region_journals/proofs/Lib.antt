@@ -1,4 +1,3 @@
-pub mod Unbroken
 pub mod Fronts
 pub mod Turns
 pub mod Moments

@@ -22,7 +22,6 @@ use Rattle.region_journals.specs.Journals.{HasSyncs, IsOpen, AreReady, KeepsJour
 use Rattle.region_journals.specs.Logging.{MayBeAppended, HasLogged, in_region}
 use Rattle.region_journals.proofs.Turns.{moved}
 use Rattle.region_journals.proofs.Moments as moments
-use Rattle.region_journals.proofs.Moments.{Have}
 use Rattle.region_journals.proofs.Rounds.{stands_in}
 use Rattle.region_journals.proofs.Prepared.{syncs_kept}
 use Rattle.region_journals.proofs.Entered.{entry_begins, none_first}
@@ -105,13 +104,13 @@ stands_then u v w file other hard lawful same so_far call =
     (subst (λ (n : ℕ). AtEachMoment v w (OnlyOn v n (StandsRecords hard []))) same call) (λ d c was have kept here. here)
 
 -- records in one region alone
-here_all : (region : ℕ) (rs : List JournalRecord) → in_region region rs region ≡ rs
+pub here_all : (region : ℕ) (rs : List JournalRecord) → in_region region rs region ≡ rs
 here_all region rs = ap (λ (b : Bool). if b then rs else []) alike
   where
     alike : (region == region) ≡ true
     alike = grind (arith, nat_tests)
 
-elsewhere_none : (region r : ℕ) (rs : List JournalRecord) → r ≢ region → in_region region rs r ≡ []
+pub elsewhere_none : (region r : ℕ) (rs : List JournalRecord) → r ≢ region → in_region region rs r ≡ []
 elsewhere_none region r rs other = ap (λ (b : Bool). if b then rs else []) unlike
   where
     unlike : (r == region) ≡ false

@@ -50,9 +50,6 @@ pub record Left (u v : View) (x y : RegionJournal) : Type 0 where
   pub ready : journals.IsReady u x.journal → journals.IsReady v y.journal
   pub state : (s : Recorded) → journals.HasRecords u x.journal s → journals.HasRecords v y.journal s
 
-pub still_left : (u v : View) (x y z : RegionJournal) → Left u v x y → z ≡ x → Left u v z y
-still_left u v x y z left is = subst (λ (q : RegionJournal). Left u v q y) (sym is) left
-
 -- A call has been at the first k regions' journals, and not at the others yet.
 pub record IsAt (u v : View) (F : ℕ → RegionJournal → RegionJournal → Type 0) (S : ℕ → RegionJournal → Recorded → Recorded → Type 0) (k : ℕ) (old : List RegionJournal) (r : ℕ) (y : RegionJournal) : Type 0 where
   pub done : (x : RegionJournal) → slice_get old r ≡ Some x → r < k → Turned u v F S r x y

@@ -19,8 +19,9 @@ use Rattle.region_store.proofs.Lists.{get-set_same, get-set_other, there}
 use Rattle.region_opening.specs.Opening.{are_home}
 use Rattle.region_opening.specs.Replaying.{AreBecome, updates_behind, IsGivenEntry, IsGivenUpTo}
 use Rattle.region_opening.proofs.Homes.{stay_home}
-use Rattle.region_opening.proofs.Replays.{unchanged, changed_then, both_made}
+use Rattle.region_opening.proofs.Replays.{changed_then, both_made}
 use Rattle.entry_index.specs.Parts.{InFiles}
+use Rattle.region_store.proofs.Making.{unchanged}
 
 -- ---- lists of regions
 

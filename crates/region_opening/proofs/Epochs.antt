@@ -1,5 +1,5 @@
 -- The last epoch of a region, by the signs of its records.
-use Rattle.std.proofs.Common.{◌≡◌, ℕ, suc, ◌-◌, ◌<◌, ◌≤◌, List, [], ◌∷◌, ◌++◌, length, take, drop, get_or, Option, Some, None, refl, sym, ◌∙◌, ap, subst, arith}
+use Rattle.std.proofs.Common.{◌≡◌, ℕ, suc, ◌-◌, ◌<◌, ◌≤◌, List, ◌∷◌, length, take, drop, get_or, Option, Some, None, refl, sym, ◌∙◌, ap, subst, arith}
 use Rattle.std.specs.Option.{option_or, option_map, unwrap_or}
 use Rattle.std.proofs.lemmas.List.{take-append-drop, drop_all}
 use Rattle.journal_defs.specs.Journal.{JournalRecord, Pini, Epoch, Pblk, Tcom}
@@ -14,11 +14,7 @@ use Rattle.region_opening.specs.declared.epoch.EpochAt.{EpochAt}
 use Rattle.region_opening.specs.Epochs.{chosen_at}
 use Rattle.region_opening.specs.Signs.{Says, Say, epoch_by}
 use Rattle.region_opening.proofs.Said.{said_at}
-
--- the last epoch of the last records is that of all
-last_there : (rs : List InstanceRecord) (t : ℕ) (ps qs : List Placed) (e : Chosen) → last_epoch rs t qs ≡ Some e → last_epoch rs t (ps ++ qs) ≡ Some e
-last_there rs t [] qs e h = h
-last_there rs t (p ∷ ps) qs e h = ap (λ (o : Option Chosen). option_or o (epoch_in rs t p.generation p.what (ps ++ qs))) (last_there rs t ps qs e h)
+use Rattle.mupip_recover.proofs.Epochs.{last_there}
 
 -- the epoch that a record is, by its sign
 by_kind : (rs : List InstanceRecord) (t g : ℕ) (what : JournalRecord) (behind : List Placed) → epoch_in rs t g what behind ≡ epoch_by rs t g (sign_of what) behind

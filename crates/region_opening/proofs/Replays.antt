@@ -10,9 +10,6 @@ use Rattle.journal_defs.specs.Fit.{region_of_update}
 use Rattle.block_laws.specs.Nodes.{updates_in}
 use Rattle.region_store.specs.Region.{Standing, IsChanged}
 
-pub unchanged : (s : Standing) → IsChanged s s
-unchanged s = record { file = refl; imaged = refl; holds = λ e bytes h. h }
-
 pub changed_then : (s t u : Standing) → IsChanged s t → IsChanged t u → IsChanged s u
 changed_then s t u first second = record { file = second.file ∙ first.file; imaged = second.imaged ∙ first.imaged; holds = λ e bytes h. second.holds e bytes (first.holds e bytes h) }
 

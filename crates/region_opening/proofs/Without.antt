@@ -1,9 +1,8 @@
 -- The first generation that keeps no images behind an epoch, by signs.
-use Rattle.std.proofs.Common.{◌≡◌, ℕ, zero, suc, ◌<◌, ◌==◌, ◌&&◌, ◌||◌, Bool, true, false, cond, List, [], ◌∷◌, length, map, drop, get_or, Some, None, refl, ◌∙◌, ap, arith}
+use Rattle.std.proofs.Common.{◌≡◌, ℕ, zero, suc, ◌<◌, ◌==◌, ◌&&◌, ◌||◌, Bool, true, false, cond, List, [], ◌∷◌, length, map, drop, get_or, Some, refl, ◌∙◌, ap, arith}
 use Rattle.std.specs.List.{find, list_any}
 use Rattle.std.specs.Option.{option_map}
 use Rattle.std.specs.Ordering.{nat_cmp}
-use Rattle.std.specs.BTreeMap.{is_at}
 use Rattle.std.specs.BTreeSet.{BTreeSet, contains}
 use Rattle.journal_defs.specs.Journal.{JournalRecord, Pini, Epoch, Pblk, Tcom}
 use Rattle.journal_defs.specs.Sequence.{Placed}
@@ -11,13 +10,6 @@ use Rattle.journal_defs.specs.Epochs.{starts_without, is_without}
 use Rattle.entry_index.specs.declared.placed.PlacedSign.{PlacedSign}
 use Rattle.entry_index.specs.RecordSigns.{sign_of}
 use Rattle.region_opening.specs.Signs.{Say, starts_by, is_without_by, AreWithout}
-
--- among no generations there is none
-pub none_found : (s : BTreeSet ℕ) (gs : List ℕ) → s.keys ≡ [] → find (contains nat_cmp s) gs ≡ None
-none_found s [] empty = refl
-none_found s (g ∷ gs) empty =
-    let none : contains nat_cmp s g ≡ false = ap (list_any (is_at (nat_cmp g))) empty in
-    ap (λ (b : Bool). cond b (Some g) (find (contains nat_cmp s) gs)) none ∙ none_found s gs empty
 
 by_kind : (what : JournalRecord) → starts_by (sign_of what) ≡ starts_without what
 by_kind (Pini s) = refl

@@ -22,7 +22,8 @@ use Rattle.before_image.specs.Images.{is_free, Knows}
 use Rattle.before_image.proofs.Marks.{no_both, knows_fresh, may_change}
 use Rattle.gvt_leaf.specs.Stored.{blocks_in}
 use Rattle.region_store.specs.Region.{Standing, HoldsRegion, AreLogged, IsFlushed, IsCutShort, flushed, with_marks}
-use Rattle.region_store.proofs.Stood.{block_there, none_there, not_both, same_bytes, state_inside, state_past}
+use Rattle.region_store.proofs.Stood.{block_there, none_there, not_both, same_bytes, state_past}
+use Rattle.before_image.proofs.OldestImages.{state_inside}
 
 -- ---- no block has changed
 

@@ -2,8 +2,6 @@
 use Rattle.std.proofs.Common.{◌≡◌, ℕ, zero, suc, ◌+◌, ◌<◌, Bool, true, false, List, length, map, filter, is_some, slice_get, Option, Some, None, refl, sym, ◌∙◌, ap, subst, arith}
 use Rattle.std.specs.Prelude.{Result, Ok, Err, IfOk, if◌then◌else◌, filter_map, unwrap_or, option_map, drop}
 use Rattle.std.specs.List.{AllByRecursion, find, list_any, starts_with}
-use Rattle.std.specs.declared.cmp.Ordering.{Ordering}
-use Rattle.std.specs.declared.cmp.Ordering.TheVariants.{Less, Equal, Greater}
 use Rattle.std.specs.Ordering.{eq_by_cmp, is_eq, nat_cmp}
 use Rattle.std.specs.Cmp.Lexicographic.{slice_cmp}
 use Rattle.std.specs.FinMap as globals
@@ -24,11 +22,7 @@ use Rattle.region_store.specs.Region.{Standing}
 use Rattle.region_store.specs.Joined.{Joined, AreJoined, ArePartsOf, joined, parts_in}
 use Rattle.region_store.specs.Counts.{nodes_at}
 use Rattle.region_store.proofs.Lists.{any_by, find_by, filter_map_by, some_in, there}
-
-is_equal : (o : Ordering) → is_eq o ≡ true → o ≡ Equal
-is_equal Less h = cc
-is_equal Equal h = refl
-is_equal Greater h = cc
+use Rattle.global_defs.proofs.KeyOrder.{is_equal}
 
 -- two names that compare as equal
 names_tie : (a b : List ℕ) → eq_by_cmp (slice_cmp nat_cmp) a b ≡ true → a ≡ b

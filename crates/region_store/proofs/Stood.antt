@@ -3,7 +3,7 @@ use Rattle.std.proofs.Common.{◌≡◌, ℕ, ◌<◌, ◌≤◌, List, [], leng
 use Rattle.std.proofs.lemmas.Bool.Decides.{nat_tests}
 use Rattle.std.proofs.lemmas.Option.{slice_get-get_or, slice_get_past}
 use Rattle.std.specs.Option.{option_map}
-use Rattle.journal_defs.specs.Epochs.{Blocks, Chosen, image_of, image_state}
+use Rattle.journal_defs.specs.Epochs.{Blocks, Chosen, image_state}
 use Rattle.journal_defs.specs.Leaves.{spelled_leaf}
 use Rattle.block_fmt.specs.Cells.{blank}
 use Rattle.block_pool.specs.Code.{Pool}
@@ -21,9 +21,6 @@ not_both o x none some = let no : None ≡ Some x = sym none ∙ some in cc
 
 pub same_bytes : (o : Option (List ℕ)) (x y : List ℕ) → o ≡ Some x → o ≡ Some y → x ≡ y
 same_bytes o x y p q = ap (λ (r : Option (List ℕ)). unwrap_or r []) (sym p ∙ q)
-
-pub state_inside : (e : Chosen) (file : Blocks) (b : ℕ) → b < e.blocks → image_state e file b ≡ Some (unwrap_or (image_of e.after b) (file b))
-state_inside e file b inside = grind (arith, nat_tests)
 
 pub state_past : (e : Chosen) (file : Blocks) (b : ℕ) → e.blocks ≤ b → 1 ≤ b → image_state e file b ≡ None
 state_past e file b far behind = grind (arith, nat_tests)

@@ -13,13 +13,13 @@ use Rattle.site_defs.specs.OutsideBlocks.{IsOutsideAt, Short, Broken}
 use Rattle.block_pool.specs.Code.{Pool}
 use Rattle.block_pool.specs.Pool.{IsAdded}
 use Rattle.before_image.specs.Undoing.{Oldest, oldest_of, Undoes}
-use Rattle.before_image.proofs.OldestImages.{undoes_image, undoes_other}
+use Rattle.before_image.proofs.OldestImages.{undoes_image, undoes_other, state_inside}
 use Rattle.jnl_record.specs.Values.{record_value, placed_value}
 use Rattle.block_laws.specs.Nodes.{AreFormed}
 use Rattle.block_pool.proofs.Written.{block_inside}
 use Rattle.jnl_record.specs.declared.placed.PlacedRecord.{PlacedRecord}
 use Rattle.region_store.specs.Laid.{epoch_at, taken, IsBlank, AreLaid}
-use Rattle.region_store.proofs.Stood.{state_inside, same_bytes}
+use Rattle.region_store.proofs.Stood.{same_bytes}
 use Rattle.region_store.proofs.Lays.{none_laid, laid_more}
 use Rattle.region_store.proofs.Breaks.{breaks_at_first}
 

@@ -173,12 +173,3 @@ synced_passes left calls file kept rooms_old rooms_new faults_old faults_new = o
       ]),
       refl,
     ))
-
-pub synced_durable : (left : Files) (calls : List Call) (file : ℕ) (kept : List ℕ) (rooms : ℕ → Room) (faults : ℕ) (c : Files) → Image (mem_view left (Synced file ∷ calls) kept rooms faults) c → c file ≡ (replay left calls kept file).read
-synced_durable left calls file kept rooms faults c now = newest now.0 now.1 now.2
-  where
-    newest : (n : ℕ) → n + suc (length calls) ≤ suc (length calls) → IsImageAt (ago left n (Synced file ∷ calls) kept) c → c file ≡ (replay left calls kept file).read
-    newest zero le im =
-        let m = settled (replay left calls kept file).read in
-        settled_image (replay left calls kept file).read (c file) (subst (λ (x : Mem). IsImageOf x (c file)) (put_same file m (replay left calls kept) file refl) (im file))
-    newest (suc n) le im = absurd (omega arith)

@@ -1,2 +1,4 @@
 pub mod Pairs
 pub mod Tagged
+pub mod Chains
+pub mod Pushes

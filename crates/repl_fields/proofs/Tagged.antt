@@ -54,7 +54,7 @@ no_key_read bytes code rest read none x r form e = none x form (read.2 (encoded 
     short_enough : (x : Key) → is_key x ≡ true → length (encoded x) < 256
     short_enough x form = search rules
 
-tail : {x y : ℕ} {xs ys : List ℕ} → x ∷ xs ≡ y ∷ ys → xs ≡ ys
+pub tail : {x y : ℕ} {xs ys : List ℕ} → x ∷ xs ≡ y ∷ ys → xs ≡ ys
 tail e = cc
 
 pub set_read : (r : List ℕ) (p : Option ((Key × List ℕ) × List ℕ)) → ReadsField IsPair spelled_pair r p

@@ -4,7 +4,7 @@ use Rattle.std.proofs.lemmas.Bool.{le-ltb}
 use Rattle.global_defs.specs.Prefix.{IsPrefix}
 use Rattle.std.proofs.lemmas.List.{take-append-drop, take-map, take_all, length-take-le}
 use Rattle.std.proofs.Math.Seq.{drop-cons, take-append_seam}
-use Rattle.std.proofs.Common.{zero, ◌||◌}
+use Rattle.std.proofs.Common.{zero}
 use Rattle.rtrb.specs.Fifo.{Allowed}
 use Rattle.repl_link.specs.Items.{is_end, Symbol, Byte, End, bytes_of, has_end, EndsLast, AreBefore}
 
@@ -74,14 +74,6 @@ all_bytes items buffer i all fits is =
     let plain : items ≡ map Byte (take i buffer) ++ [] = sym (take_all i items (omega arith)) ∙ is ∙ sym (append-nil (map Byte (take i buffer))) in
     let bytes : bytes_of items ≡ take i buffer = ap bytes_of plain ∙ bytes_of-bytes (take i buffer) [] ∙ append-nil (take i buffer) in
     (bytes ∙ sym same, ap length bytes ∙ length-take-le i buffer fits ∙ sym all, ap has_end plain ∙ has_end-bytes (take i buffer) [])
-
--- a longer front has the mark where the shorter one has it or the next symbol is it
-pub has_end-front : (items : List Symbol) (i : ℕ) (d : Symbol) → i < length items → has_end (take (suc i) items) ≡ (has_end (take i items) || is_end (get_or items i d))
-has_end-front [] i d below = absurd (omega (arith, below))
-has_end-front (Byte b ∷ items) zero d below = refl
-has_end-front (End ∷ items) zero d below = refl
-has_end-front (Byte b ∷ items) (suc i) d below = has_end-front items i d (omega (arith, below))
-has_end-front (End ∷ items) (suc i) d below = refl
 
 -- where the mark isn't among them, no symbol is it
 pub plain_at : (items : List Symbol) (i : ℕ) (d : Symbol) → i < length items → has_end items ≡ false → is_end (get_or items i d) ≡ false

@@ -1,12 +1,8 @@
 -- What is left of a line without its ignored end.
-use Rattle.std.proofs.Common.{◌≡◌, ◌≢◌, ℕ, ◌+◌, ◌-◌, ◌≤◌, List, [], ◌∷◌, ◌++◌, length, take, get_or, refl, sym, ap, ◌∙◌, arith}
-use Rattle.std.proofs.lemmas.List.{take_more, take_all}
+use Rattle.std.proofs.Common.{◌≡◌, ◌≢◌, ℕ, ◌-◌, ◌≤◌, List, [], ◌∷◌, ◌++◌, length, take, get_or, refl, sym, ap, ◌∙◌, arith}
 use Rattle.command_defs.specs.Parts.{before_spaces, before_return}
 use Rattle.command_defs.proofs.LineEnds.{space_gone, up_to_byte, return_gone, other_stays}
-
-split_last : (text : List ℕ) → 1 ≤ length text → text ≡ take (length text - 1) text ++ get_or text (length text - 1) 0 ∷ []
-split_last text h = let n = length text - 1 in
-    sym (take_all (n + 1) text (omega arith)) ∙ take_more text n 0 (omega arith)
+use Rattle.command_defs.proofs.Patterns.{split_last}
 
 pub return_taken : (text : List ℕ) → 1 ≤ length text → get_or text (length text - 1) 0 ≡ 13 → take (length text - 1) text ≡ before_return text
 return_taken text h e = let n = length text - 1 in

@@ -6,10 +6,10 @@ use Rattle.std.specs.declared.result.Result.TheVariants.{Ok, Err}
 use Rattle.command_defs.specs.Commands.{Region, region_form, regions_behind}
 use Rattle.std.proofs.lemmas.Bool.{cond-false}
 use Rattle.command_defs.specs.Parts.{column, followed, taken, ended}
-use Rattle.command_defs.proofs.Taken.{chosen}
 use Rattle.command_defs.proofs.RegionForms.{behind_none, behind_full, behind_one}
 use Rattle.repl_script.specs.Commands.{region_value}
 use Rattle.repl_script.specs.Reads.{Tells}
+use Rattle.gvn_key.proofs.KeyTextFound.{chosen}
 
 -- room for one more
 one_room : (count len : ℕ) (rest : List ℕ) (before slice : List (List ℕ × Bool)) (whole : Result (List Region) ℕ) → count < 8 → (length rest == 0) ≡ false → slice ≡ before

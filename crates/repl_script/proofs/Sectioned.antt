@@ -1,20 +1,17 @@
 -- What becomes of a section whose parts were changed.
 use Rattle.std.proofs.Common.{◌≡◌, ℕ, ◌+◌, ◌-◌, Bool, true, false, List, [], ◌∷◌, ◌++◌, set, refl, sym, ap, ◌∙◌, subst, map, replicate}
-use Rattle.std.specs.Prelude.{Option, Some, None, OnOk, OnErr, count_by, if◌then◌else◌}
+use Rattle.std.specs.Prelude.{OnOk, OnErr, count_by, if◌then◌else◌}
 use Rattle.std.specs.declared.result.Result.{Result}
 use Rattle.std.specs.declared.result.Result.TheVariants.{Ok, Err}
 use Rattle.std.proofs.lemmas.List.Sums.{sum_by-cons}
 use Rattle.global_defs.specs.Jobs.{Statement, Job}
-use Rattle.script_defs.specs.Parts.{word_end}
 use Rattle.script_defs.specs.Parts as texts
 use Rattle.gvn_text.specs.Reads as tells
 use Rattle.command_defs.specs.Commands.{Name, Run, IsFormed, IsWhole}
 use Rattle.command_defs.specs.Parts.{is_name}
 use Rattle.command_defs.specs.Sections.{Section, jobs_of, last_job, longer, IsSound}
 use Rattle.command_defs.specs.Updaters.{is_updater, is_of_size}
-use Rattle.command_defs.specs.Script.{stated}
-use Rattle.command_defs.proofs.Sounds.{sound_begun, sound_with_job, sound_transaction_begun, sound_transaction_ended, sound_longer, uses_up, formed_run}
-use Rattle.repl_script.specs.Entries.{TellsWrong, located}
+use Rattle.command_defs.proofs.Sounds.{sound_begun, sound_with_job, sound_transaction_begun, sound_longer, uses_up, formed_run}
 
 -- a section of the same parts
 sound_parts : (name : Name) (jobs jobs' : List (List Job)) (order order' : List ℕ) (opened opened' : List Bool) → jobs ≡ jobs' → order ≡ order' → opened ≡ opened'
@@ -37,10 +34,6 @@ begun_parts s u jobs order k job h is a empty b at =
     sound_parts s.name jobs (set s.jobs (u - 1) (jobs_of s u ++ [] ∷ [])) order (s.order ++ u ∷ []) (set s.opened k true) (set s.opened (u - 1) true)
     (a ∙ ap (λ (j : Job). set s.jobs (u - 1) (jobs_of s u ++ j ∷ [])) empty) b (ap (λ (i : ℕ). set s.opened i true) at) (sound_transaction_begun s u h is)
 
--- a transaction was ended
-pub ended_parts : (s : Section) (u k : ℕ) → IsSound s → is_updater u ≡ true → k ≡ u - 1 → IsSound (record s { opened = set s.opened k false })
-ended_parts s u k h is at = sound_parts s.name s.jobs s.jobs s.order s.order (set s.opened k false) (set s.opened (u - 1) false) refl refl (ap (λ (i : ℕ). set s.opened i false) at) (sound_transaction_ended s u h is)
-
 -- a job was added, or memory ran out
 pub after_job : {X E : Type 0} (s : Section) (u : ℕ) (job : Job) (r : Result X E) (jobs : List (List Job)) (order : List ℕ) → IsSound s → is_updater u ≡ true → is_of_size job ≡ true
     → OnOk r (jobs ≡ set s.jobs (u - 1) (jobs_of s u ++ job ∷ [])) → OnOk r (order ≡ s.order ++ u ∷ []) → OnErr r (jobs ≡ s.jobs) → OnErr r (order ≡ s.order)
@@ -58,11 +51,6 @@ after_statement s u statement (Err e) jobs h is small a b = sound_parts s.name j
 -- a section's command
 pub complete_run : (s : Section) → IsSound s → IsFormed (Run s.name s.jobs s.order) × IsWhole (Run s.name s.jobs s.order)
 complete_run s h = (formed_run s h, uses_up s h)
-
--- a statement's fault is told by its column
-pub located_told : (s : Section) (u at : ℕ) (o : Option texts.Fault) (reading : Result Statement texts.Fault) → tells.Tells o reading → TellsWrong (located at o) (stated s u at reading)
-located_told s u at None reading h = tt
-located_told s u at (Some fault) reading h = ap (stated s u at) h
 
 -- as many pass a test of their images
 pub count-map : {X Y : Type 0} (p : Y → Bool) (f : X → Y) (xs : List X) → count_by p (map f xs) ≡ count_by (λ x. p (f x)) xs

@@ -16,9 +16,9 @@ use Rattle.repl_wire.specs.declared.field.Scan.{Scan}
 use Rattle.repl_wire.specs.declared.front.Front.{Front}
 use Rattle.repl_wire.specs.Fronts.{unit, IsOpen}
 use Rattle.repl_wire.specs.Kinds.{type_of, least_body, most_body}
-use Rattle.repl_wire.specs.Layout.{Rest, Ended, Sized, One, Numbered, Within, Named, Skipped, Then, Starting, Cycling, Rooted, Reigned, Valued, BehindKey, Keyed, Tagged, Updated, UpdateCount, Serial, Updater, ReignCount, Lengthed, Sited, Versioned, Alone, Body, Bodied, Typed}
+use Rattle.repl_wire.specs.Layout.{Rest, Ended, Sized, One, Within, Named, Skipped, Then, Cycling, Rooted, Reigned, Valued, BehindKey, Keyed, Tagged, Updated, UpdateCount, Updater, ReignCount, Lengthed, Sited, Alone, Body, Bodied, Typed}
 use Rattle.repl_wire.specs.Scans.{Awaits, Accepts, Fits, BehindByte, KeyRest, ByteFits, KeyFits, HoldsReigns, HoldsUpdates, HoldsSome, SiteFits, RootFits, TagFits, KeyLengthFits}
-use Rattle.repl_wire.proofs.Sizes.{Same, before, numbered_map, one_same, number_same, within_same, named_same, skipped_same, sized_same}
+use Rattle.repl_wire.proofs.Sizes.{Same, numbered_map, one_same, number_same, within_same, named_same, skipped_same, sized_same}
 use Rattle.repl_wire.proofs.Lengths.{behind_number, skipped_length, reigned_length, updated_length, rooted_length, lengthed_length, keyed_length}
 
 abbrev scan : Part → ℕ → ℕ → Scan
@@ -37,16 +37,6 @@ fresh_open missing low high some few bounds small reach = record {
   few = few;
 }
 
--- nothing, of no bytes
-pub ended_same : (left : ℕ) → left ≡ 0 → Same Ended (Sized Ended left)
-ended_same left e = record { to = λ w h. (h, ap length h ∙ sym e); back = λ w h. h.0 }
-
-pub ranged_same : (lo hi left : ℕ) (K L : ℕ → Rest) (n : ℕ) → Same (L n) (Sized (K n) left) → Same (Within lo hi L n) (Sized (Within lo hi K n) left)
-ranged_same lo hi left K L n same = record {
-  to = λ w h. let s = same.to w h.2 in ((h.0, h.1, s.0), s.1);
-  back = λ w h. (h.0.0, h.0.1, same.back w (h.0.2, h.1));
-}
-
 pub within_in : (lo hi left n : ℕ) (A : Rest) (K : ℕ → Rest) → lo ≤ n → n ≤ hi → Same A (Sized (K n) left) → Same A (Sized (Within lo hi K n) left)
 within_in lo hi left n A K low high same = record {
   to = λ w h. let s = same.to w h in ((low, high, s.0), s.1);
@@ -54,24 +44,6 @@ within_in lo hi left n A K low high same = record {
 }
 
 -- reigns
-
-pub reigns_awaited : (count left : ℕ) → 0 < count → HoldsReigns 0 0 count left → Awaits (scan (Byte byte.RootLength) (left - 1) (count - 1)) (Sized (Reigned count) left)
-reigns_awaited count left some holds = before (λ (c i : ℕ). HoldsReigns 0 0 c left → Awaits (scan (Byte byte.RootLength) (left - 1) i) (Sized (Reigned c) left)) count some by_count holds
-  where
-    by_count : (i : ℕ) → HoldsReigns 0 0 (suc i) left → Awaits (scan (Byte byte.RootLength) (left - 1) i) (Sized (Reigned (suc i)) left)
-    by_count i h = awaits (Byte byte.RootLength) (left - 1) i (Sized (Reigned (suc i)) left) (omega (arith, h.0, h.1), omega (arith, h.0, h.1))
-        (one_same left (left - 1) (Rooted (Reigned i)) (BehindByte byte.RootLength (left - 1) i) (λ n. sized_same (Rooted (Reigned i) n) (left - 1)) (omega (arith, h.0, h.1)))
-
-pub updates_awaited : (count left : ℕ) → 0 < count → HoldsUpdates 0 0 count left → Awaits (scan (Byte byte.Tag) (left - 1) (count - 1)) (Sized (Updated count) left)
-updates_awaited count left some holds = before (λ (c i : ℕ). HoldsUpdates 0 0 c left → Awaits (scan (Byte byte.Tag) (left - 1) i) (Sized (Updated c) left)) count some by_count holds
-  where
-    by_count : (i : ℕ) → HoldsUpdates 0 0 (suc i) left → Awaits (scan (Byte byte.Tag) (left - 1) i) (Sized (Updated (suc i)) left)
-    by_count i h = awaits (Byte byte.Tag) (left - 1) i (Sized (Updated (suc i)) left) (omega (arith, h.0, h.1), omega (arith, h.0, h.1))
-        (one_same left (left - 1) (Tagged (Updated i)) (BehindByte byte.Tag (left - 1) i) (λ n. sized_same (Tagged (Updated i) n) (left - 1)) (omega (arith, h.0, h.1)))
-
--- no reigns, or updates, are left
-pub none_awaited : (s : Scan) (left : ℕ) → left ≡ 0 → Awaits s Ended → Awaits s (Sized Ended left)
-none_awaited s left e a = let same = ended_same left e in record { sound = a.sound; only = λ w h. same.to w (a.only w h); each = λ w h. a.each w (same.back w h) }
 
 pub reign_count_awaited : (left l low high : ℕ) → left ≡ 4 + l → HoldsSome 4 left → l ≤ 28 * low → 28 * low < l + 28 → 14 * high ≤ l → l < 14 * high + 14
     → Awaits (scan (Number number.ReignCount (fresh 4 low high)) l 0) (Sized ReignCount left)
@@ -111,46 +83,6 @@ value_awaited left l items low high e holds a zeroed b c top = awaits (Number nu
         above : (n : ℕ) → l ≤ n + 1759 * items → low ≤ n
         above n h = elim zeroed as (λ _. low ≤ n) [ inl z ↦ omega arith | inr z ↦ omega arith ]
 
-pub cycle_awaited : (left items : ℕ) → HoldsReigns 12 12 items left → Awaits (scan (Number number.Cycle (fresh 4 1 (2 ^ 32 - 1))) (left - 4) items) (Sized (Cycling (Reigned items)) left)
-cycle_awaited left items h = awaits (Number number.Cycle (fresh 4 1 (2 ^ 32 - 1))) (left - 4) items (Sized (Cycling (Reigned items)) left)
-    (fresh_open 4 1 (2 ^ 32 - 1) (omega arith) (omega arith) (omega arith) (omega arith) (omega arith), (omega (arith, h.0, h.1), omega (arith, h.0, h.1)))
-    (number_same left (left - 4) 4 (Within 1 (2 ^ 32 - 1) (λ _. Starting (Reigned items))) (Within 1 (2 ^ 32 - 1) (λ _. Sized (Starting (Reigned items)) (left - 4)))
-    (λ n. ranged_same 1 (2 ^ 32 - 1) (left - 4) (λ _. Starting (Reigned items)) (λ _. Sized (Starting (Reigned items)) (left - 4)) n (sized_same (Starting (Reigned items)) (left - 4)))
-    (omega (arith, h.0)))
-
-pub start_awaited : (left items : ℕ) → HoldsReigns 8 8 items left → Awaits (scan (Number number.Start (fresh 8 1 (2 ^ 40))) (left - 8) items) (Sized (Starting (Reigned items)) left)
-start_awaited left items h = awaits (Number number.Start (fresh 8 1 (2 ^ 40))) (left - 8) items (Sized (Starting (Reigned items)) left)
-    (fresh_open 8 1 (2 ^ 40) (omega arith) (omega arith) (omega arith) (omega arith) (omega arith), (omega (arith, h.0, h.1), omega (arith, h.0, h.1)))
-    (number_same left (left - 8) 8 (Within 1 (2 ^ 40) (λ _. Reigned items)) (Within 1 (2 ^ 40) (λ _. Sized (Reigned items) (left - 8)))
-    (λ n. ranged_same 1 (2 ^ 40) (left - 8) (λ _. Reigned items) (λ _. Sized (Reigned items) (left - 8)) n (sized_same (Reigned items) (left - 8)))
-    (omega (arith, h.0)))
-
-pub alone_awaited : (low high : ℕ) → low ≤ high → high ≤ 2 ^ 40 → Awaits (scan (Number number.Alone (fresh 8 low high)) 0 0) (Sized (Alone low high) 8)
-alone_awaited low high bounds small = awaits (Number number.Alone (fresh 8 low high)) 0 0 (Sized (Alone low high) 8)
-    (fresh_open 8 low high (omega arith) (omega arith) bounds small (omega arith), refl)
-    (number_same 8 0 8 (Within low high (λ _. Ended)) (Within low high (λ _. Sized Ended 0))
-    (λ n. ranged_same low high 0 (λ _. Ended) (λ _. Sized Ended 0) n (sized_same Ended 0)) refl)
-
-pub hello_awaited : (len : ℕ) → 15 ≤ len → len ≤ 1048576 → Awaits (scan (Byte byte.Version) (len - 1) 0) (Sized (Body Hello) len)
-hello_awaited len least most = awaits (Byte byte.Version) (len - 1) 0 (Sized (Body Hello) len) (omega arith, omega arith)
-    (one_same len (len - 1) Versioned (BehindByte byte.Version (len - 1) 0) (λ n. sized_same (Versioned n) (len - 1)) (omega arith))
-
-pub entry_awaited : (len : ℕ) → 19 ≤ len → len ≤ 450319 → Awaits (scan (Number number.EntryNumber (fresh 8 1 (2 ^ 40 - 1))) (len - 8) 0) (Sized (Body Entry) len)
-entry_awaited len least most = awaits (Number number.EntryNumber (fresh 8 1 (2 ^ 40 - 1))) (len - 8) 0 (Sized (Body Entry) len)
-    (fresh_open 8 1 (2 ^ 40 - 1) (omega arith) (omega arith) (omega arith) (omega arith) (omega arith), (omega arith, omega arith))
-    (number_same len (len - 8) 8 (Within 1 (2 ^ 40 - 1) (λ _. One Updater)) (Within 1 (2 ^ 40 - 1) (λ _. Sized (One Updater) (len - 8)))
-    (λ n. ranged_same 1 (2 ^ 40 - 1) (len - 8) (λ _. One Updater) (λ _. Sized (One Updater) (len - 8)) n (sized_same (One Updater) (len - 8)))
-    (omega arith))
-
-pub updater_awaited : (left : ℕ) → 11 ≤ left → left ≤ 450311 → Awaits (scan (Byte byte.Updater) (left - 1) 0) (Sized (One Updater) left)
-updater_awaited left least most = awaits (Byte byte.Updater) (left - 1) 0 (Sized (One Updater) left) (omega arith, omega arith)
-    (one_same left (left - 1) Updater (BehindByte byte.Updater (left - 1) 0) (λ n. sized_same (Updater n) (left - 1)) (omega arith))
-
-pub version_awaited : (b left : ℕ) → b ≡ 1 → 14 ≤ left → left ≤ 1048575 → Awaits (scan (Byte byte.SiteLength) (left - 1) 0) (Sized (Versioned b) left)
-version_awaited b left e least most = awaits (Byte byte.SiteLength) (left - 1) 0 (Sized (Versioned b) left) (omega arith, omega arith)
-    (within_in 1 1 left b (One (BehindByte byte.SiteLength (left - 1) 0)) (λ _. One Sited) (omega arith) (omega arith)
-    (one_same left (left - 1) Sited (BehindByte byte.SiteLength (left - 1) 0) (λ n. sized_same (Sited n) (left - 1)) (omega arith)))
-
 pub site_awaited : (n left behind : ℕ) → 1 ≤ n → n ≤ 15 → left ≡ n + behind → HoldsSome 12 behind → Awaits (scan (Name true n true) behind 0) (Sized (Sited n) left)
 site_awaited n left behind some few e holds = awaits (Name true n true) behind 0 (Sized (Sited n) left) (some, holds)
     (within_in 1 15 left n (Named true n (Sized Lengthed behind)) (λ m. Named true m Lengthed) some few (named_same n behind left Lengthed e))
@@ -158,24 +90,6 @@ site_awaited n left behind some few e holds = awaits (Name true n true) behind 0
 pub root_awaited : (n left behind items : ℕ) → 1 ≤ n → n ≤ 15 → left ≡ n + behind → HoldsReigns 12 12 items behind → Awaits (scan (Name true n false) behind items) (Sized (Rooted (Reigned items) n) left)
 root_awaited n left behind items some few e holds = awaits (Name true n false) behind items (Sized (Rooted (Reigned items) n) left) (some, holds)
     (within_in 1 15 left n (Named true n (Sized (Cycling (Reigned items)) behind)) (λ m. Named true m (Cycling (Reigned items))) some few (named_same n behind left (Cycling (Reigned items)) e))
-
-pub serial_awaited : (n left : ℕ) → 1 ≤ n → n ≤ 64 → 10 ≤ left → left ≤ 450310 → Awaits (scan (Number number.Serial (fresh 4 1 (2 ^ 32 - 1))) (left - 4) 0) (Sized (Updater n) left)
-serial_awaited n left some few least most = awaits (Number number.Serial (fresh 4 1 (2 ^ 32 - 1))) (left - 4) 0 (Sized (Updater n) left)
-    (fresh_open 4 1 (2 ^ 32 - 1) (omega arith) (omega arith) (omega arith) (omega arith) (omega arith), (omega arith, omega arith))
-    (within_in 1 64 left n (Numbered 4 0 (Within 1 (2 ^ 32 - 1) (λ _. Sized UpdateCount (left - 4)))) (λ _. Serial) some few
-    (number_same left (left - 4) 4 (Within 1 (2 ^ 32 - 1) (λ _. UpdateCount)) (Within 1 (2 ^ 32 - 1) (λ _. Sized UpdateCount (left - 4)))
-    (λ m. ranged_same 1 (2 ^ 32 - 1) (left - 4) (λ _. UpdateCount) (λ _. Sized UpdateCount (left - 4)) m (sized_same UpdateCount (left - 4)))
-    (omega arith)))
-
-pub length_awaited : (left : ℕ) → HoldsSome 12 left → Awaits (scan (Number number.Length (fresh 8 0 (2 ^ 40 - 1))) (left - 8) 0) (Sized Lengthed left)
-length_awaited left holds = awaits (Number number.Length (fresh 8 0 (2 ^ 40 - 1))) (left - 8) 0 (Sized Lengthed left)
-    (fresh_open 8 0 (2 ^ 40 - 1) (omega arith) (omega arith) (omega arith) (omega arith) (omega arith), (less.0, omega (arith, holds.1)))
-    (number_same left (left - 8) 8 (Within 0 (2 ^ 40 - 1) (λ _. ReignCount)) (Within 0 (2 ^ 40 - 1) (λ _. Sized ReignCount (left - 8)))
-    (λ n. ranged_same 0 (2 ^ 40 - 1) (left - 8) (λ _. ReignCount) (λ _. Sized ReignCount (left - 8)) n (sized_same ReignCount (left - 8)))
-    less.1)
-  where
-    less : ((left - 8 ≡ 4) ⊎ (4 + 14 ≤ left - 8)) × (left ≡ 8 + (left - 8))
-    less = elim holds.0 as (λ _. ((left - 8 ≡ 4) ⊎ (4 + 14 ≤ left - 8)) × (left ≡ 8 + (left - 8))) [ inl z ↦ (inl (omega arith), omega arith) | inr z ↦ (inr (omega arith), omega arith) ]
 
 pub key_length_awaited : (set : Bool) (tag left items : ℕ) → set ≡ nat_eq tag 1 → 1 ≤ tag → tag ≤ 3 → 1 ≤ left → ByteFits (byte.KeyLength set) (left - 1) items
     → Awaits (scan (Byte (byte.KeyLength set)) (left - 1) items) (Sized (Tagged (Updated items) tag) left)

@@ -1,5 +1,5 @@
 -- What holds of one site, as its sequence grows or becomes a front of one.
-use Rattle.std.proofs.Common.{◌≡◌, inl, inr, ℕ, zero, suc, ◌+◌, ◌-◌, ◌<◌, ◌≤◌, List, [], ◌∷◌, ◌++◌, length, take, set, get_or, sym, ◌∙◌, ap, subst, arith, take-take, get_or-set_same}
+use Rattle.std.proofs.Common.{◌≡◌, inl, inr, ℕ, ◌+◌, ◌-◌, ◌<◌, ◌≤◌, List, [], ◌∷◌, ◌++◌, length, take, sym, ◌∙◌, ap, subst, arith, take-take, get_or-set_same}
 use Rattle.std.proofs.Math.ListN.{length-set}
 use Rattle.std.proofs.lemmas.Option.{slice_get_within}
 use Rattle.global_defs.specs.Entry.{Update, Stamp, Entry, Sequence}
@@ -9,6 +9,7 @@ use Rattle.lineage_defs.specs.Sites.{Primary, Following, Site, World}
 use Rattle.lineage_defs.specs.Events.{picked_once}
 use Rattle.lineage_defs.specs.Lineage.{SerialsRise, ArePast, IsReigning, HasPrimary}
 use Rattle.resync_core.proofs.Fronts as lists
+use Rattle.global_defs.proofs.Lists.{at_least, get-push}
 
 pub rise-front : (xs ys : Sequence) → IsPrefix xs ys → SerialsRise ys → SerialsRise xs
 rise-front xs ys p rise i j d e low first second = rise i j d e low (lists.prefix-get xs ys i d p first) (lists.prefix-get xs ys j e p second)
@@ -35,20 +36,13 @@ pub left : (h k n : ℕ) (xs : Sequence) → h ≤ k → k ≤ n → IsPrefix (t
 left h k n xs le most = subst (λ (l : Sequence). IsPrefix (take h xs) l) (sym (take-take k n xs most)) (lists.fronts h k xs le)
 
 -- no updater's next serial falls
-at_least : (next : List ℕ) (i k : ℕ) → get_or next i 1 ≤ get_or (set next k (get_or next k 1 + 1)) i 1
-at_least [] i k = omega arith
-at_least (x ∷ xs) zero zero = omega arith
-at_least (x ∷ xs) zero (suc k) = omega arith
-at_least (x ∷ xs) (suc i) zero = omega arith
-at_least (x ∷ xs) (suc i) (suc k) = at_least xs i k
-
 pub next-raised : (stamp : Stamp) (serials : List ℕ) (u : ℕ) (seq : Sequence) → ArePast stamp serials seq → ArePast stamp (picked_once serials u) seq
 next-raised stamp serials u seq next i e is its =
     let low = next i e is its in let more = at_least serials (e.transaction.origin.updater - 1) (u - 1) in omega arith
 
 pub next-more : (stamp : Stamp) (serials : List ℕ) (u : ℕ) (updates : List Update) (seq : Sequence) → 1 ≤ u → u ≤ 64 → length serials ≡ 64 → ArePast stamp serials seq
     → ArePast stamp (picked_once serials u) (seq ++ entry_of stamp u (serial_at serials u) updates ∷ [])
-next-more stamp serials u updates seq least most size next i e is its = elim (lists.get-push seq made i e is) [
+next-more stamp serials u updates seq least most size next i e is its = elim (get-push seq made i e is) [
   | inl old ↦ next-raised stamp serials u seq next i e old its
   | inr new ↦
       let there = get_or-set_same serials (u - 1) (serial_at serials u + 1) 1 (omega arith) in
@@ -64,8 +58,8 @@ raised-size serials u size = length-set serials (u - 1) (serial_at serials u + 1
 -- an entry more, whose serial is the updater's next one
 pub rise-more : (stamp : Stamp) (serials : List ℕ) (u : ℕ) (updates : List Update) (seq : Sequence) → SerialsRise seq → ArePast stamp serials seq
     → SerialsRise (seq ++ entry_of stamp u (serial_at serials u) updates ∷ [])
-rise-more stamp serials u updates seq rise next i j d e low first second stamps same = elim (lists.get-push seq made i d first) [
-  | inl old ↦ elim (lists.get-push seq made j e second) [
+rise-more stamp serials u updates seq rise next i j d e low first second stamps same = elim (get-push seq made i d first) [
+  | inl old ↦ elim (get-push seq made j e second) [
     | inl also ↦ rise i j d e low old also stamps same
     | inr last ↦
         let below = next i d old (stamps ∙ ap (λ (x : Entry). x.stamp) last.1) in
@@ -74,7 +68,7 @@ rise-more stamp serials u updates seq rise next i j d e low first second stamps 
         subst (λ (n : ℕ). d.transaction.origin.serial < n) (sym own)
         (subst (λ (k : ℕ). d.transaction.origin.serial < serial_at serials k) updater below)
   ]
-  | inr last ↦ elim (lists.get-push seq made j e second) [
+  | inr last ↦ elim (get-push seq made j e second) [
     | inl also ↦ let within = slice_get_within seq j e also in let here = last.0 in absurd (omega arith)
     | inr both ↦ let here = last.0 in let there = both.0 in absurd (omega arith)
   ]

@@ -9,6 +9,7 @@ use Rattle.lineage_defs.specs.Histories.{begun_by, StartsRise, StampsChange, Has
 use Rattle.lineage_defs.specs.Events.{reign_from, Adopts}
 use Rattle.resync_core.proofs.Fronts as lists
 use Rattle.resync_core.proofs.BegunReigns.{or_none, begun-first, begun-later, begun-begun, begun-push_late, AllBegun, all-begun, stamp-push, stamp-first, stamp-later, stamp-begun, stamp-begun_before, stamp-none}
+use Rattle.global_defs.proofs.Lists.{get-push}
 
 -- Starts
 
@@ -215,7 +216,7 @@ changes-more rs xs s h other = changes-push (length xs) (begun_by (length xs) rs
 -- An entry more, whose reign goes on or is adopted
 
 pub stamps-more : (rs : List Reign) (xs : Sequence) (x : Entry) → HasStamps rs xs → stamp_at (suc (length xs)) rs ≡ Some x.stamp → HasStamps rs (xs ++ x ∷ [])
-stamps-more rs xs x stamps last i e is = elim (lists.get-push xs x i e is) [
+stamps-more rs xs x stamps last i e is = elim (get-push xs x i e is) [
   | inl old ↦ stamps i e old
   | inr new ↦
       subst (λ (k : ℕ). stamp_at (suc k) rs ≡ Some e.stamp) (sym new.0)

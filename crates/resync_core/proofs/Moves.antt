@@ -6,6 +6,7 @@ use Rattle.global_defs.specs.Prefix.{IsPrefix}
 use Rattle.lineage_defs.specs.Sites.{Primary, Following, Site, World, hardened_part}
 use Rattle.lineage_defs.specs.Lineage.{Agree, HasCycles, IsAmong, IsFitSite, HasPrimary, IsFit}
 use Rattle.resync_core.proofs.Fronts as lists
+use Rattle.global_defs.proofs.Lists.{get-push}
 
 -- the entries are a front of those of a site, and of another site's hardened ones
 pub record IsFront (w : World) (j : ℕ) (new : Site) : Type 0 where
@@ -86,7 +87,7 @@ seen-more : (w : World) (j : ℕ) (old new : Site) (i : ℕ) (x : Entry) → sli
     → Old w j new i x ⊎ Last old i x
 seen-more w j old new i x there more is =
     let begins : IsPrefix old.sequence new.sequence = (more.made ∷ [], more.after) in
-    elim (lists.get-push old.sequence more.made i x (subst (λ (l : Sequence). slice_get l i ≡ Some x) more.after is)) [
+    elim (get-push old.sequence more.made i x (subst (λ (l : Sequence). slice_get l i ≡ Some x) more.after is)) [
       | inl before ↦ inl (record {
         place = j;
         site = old;

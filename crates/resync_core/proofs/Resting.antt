@@ -5,6 +5,7 @@ use Rattle.lineage_defs.specs.Sites.{Down, Primary, Following, Site, World, hard
 use Rattle.lineage_defs.specs.Lineage.{Agree, HasCycles, IsAmong, IsFitSite, HasPrimary, IsFit}
 use Rattle.lineage_defs.specs.Outcomes.{IsAtRest, IsUnused}
 use Rattle.resync_core.proofs.Fronts as lists
+use Rattle.global_defs.proofs.Lists.{get-push}
 
 pub at-rest : (w : World) → ((i : ℕ) (a : Site) → slice_get w i ≡ Some a → IsAtRest a)
     → ((i j : ℕ) (a b : Site) → slice_get w i ≡ Some a → slice_get w j ≡ Some b → a.name ≡ b.name → i ≡ j)
@@ -33,7 +34,7 @@ empty = record {
 
 -- a site of the longer world
 found : (w : World) (name : List ℕ) (i : ℕ) (a : Site) → slice_get (w ++ fresh name ∷ []) i ≡ Some a → (slice_get w i ≡ Some a) ⊎ ((i ≡ length w) × (a ≡ fresh name))
-found w name i a at = lists.get-push w (fresh name) i a at
+found w name i a at = get-push w (fresh name) i a at
 
 no-entry : (name : List ℕ) (a : Site) (n : ℕ) (x : Entry) → a ≡ fresh name → slice_get a.sequence n ≡ Some x → ⊥
 no-entry name a n x e is = let none : None ≡ Some x = subst (λ (s : Site). slice_get s.sequence n ≡ Some x) e is in cc

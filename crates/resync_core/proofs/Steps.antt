@@ -12,7 +12,7 @@ use Rattle.resync_core.proofs.Fronts as lists
 use Rattle.resync_core.proofs.Places as places
 use Rattle.resync_core.proofs.Places.{Either}
 use Rattle.resync_core.proofs.Moves as moves
-use Rattle.resync_core.proofs.Moves.{IsFront, IsMore, GoesOn, Move, Moves}
+use Rattle.resync_core.proofs.Moves.{IsFront, Move, Moves}
 use Rattle.resync_core.proofs.Facts as facts
 use Rattle.resync_core.proofs.Followers as followers
 use Rattle.resync_core.proofs.BegunReigns.{begun-begun, begun-push_late, length-begun, fewer-begun, stamp-push}

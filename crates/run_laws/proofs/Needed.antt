@@ -1,5 +1,5 @@
 -- NEEDFORWARD and NOBEFORE by the files that are shown.
-use Rattle.std.proofs.Common.{◌≡◌, ◌<◌, ℕ, zero, suc, Bool, true, false, List, [], ◌∷◌, length, Option, None, Some, slice_get, refl, sym, ◌∙◌, subst, arith}
+use Rattle.std.proofs.Common.{◌≡◌, ℕ, zero, suc, Bool, true, false, List, [], ◌∷◌, length, Option, None, Some, slice_get, refl, sym, ◌∙◌, subst}
 use Rattle.std.specs.Prelude.{IfSome, IsSomeAnd}
 use Rattle.std.specs.List.{AllByRecursion}
 use Rattle.disk_defs.specs.Disk.{Files, View}
@@ -25,6 +25,7 @@ use Rattle.world_defs.specs.rows.Stop.{stop}
 use Rattle.world_laws.specs.Entries.{IsPlaceOf}
 use Rattle.run_laws.specs.Needs.{BytesHave, NoneNeeds, NeedsFirst, NeedsFirstForAll, IsTiedApart, all_of, showing}
 use Rattle.run_laws.proofs.Owns.{owns, makes_here}
+use Rattle.world_laws.proofs.Bare.{slice_inside as region_there}
 
 shown_at : (ps : List Place) (i : ℕ) (p : Place) → AllByRecursion IsShown ps → slice_get ps i ≡ Some p → IsShown p
 shown_at [] i p all there = cc
@@ -106,11 +107,6 @@ pub set-closed : (w m : World) (name region : Name) (before : Bool) (text : List
 set-closed w m name region before text p q h shown at none =
     let d : SetsMode region before p q = (makes_here (row_at (set_journal region before) p) w m Done text at.number p q (owns (set_journal region before) w m name Done text at.number p at.named at.before h) at.before at.behind).1 in
     closed m.places at.number q shown at.behind (d.unneeding none)
-
-region_there : {X : Type 0} (xs : List X) (i : ℕ) (x : X) → slice_get xs i ≡ Some x → i < length xs
-region_there [] i x e = cc
-region_there (y ∷ ys) zero x e = omega arith
-region_there (y ∷ ys) (suc i) x e = let less = region_there ys i x e in omega (arith, less)
 
 -- of the same bytes none needs it, and one does
 not_both : (region : Name) (files : Files) → BySequence (λ u seq. NoneIsWithout u (length seq)) files → BySequence (λ u seq. (g : ℕ) × IsFirstWithout region g u (length seq)) files → ⊥

@@ -15,19 +15,14 @@ use Rattle.global_defs.specs.Valid.{is_name}
 use Rattle.gvn_key.specs.Faults.{key_of, key_fault}
 use Rattle.gvn_key.specs.ZwrText.{zwr_reading}
 use Rattle.gvn_key.specs.KeyText.{IsSubText, number, string, IsKeyText, bare, branched, subs_in, fitting, named, is_bracket, split_name, answered, key_reading}
-use Rattle.gvn_key.proofs.ZwrFound.{zwr_found}
+use Rattle.gvn_key.proofs.ZwrFound.{zwr_found, none_left}
 use Rattle.gvn_key.proofs.KeyTextLaws.{key_text_read}
-use Rattle.gvn_key.proofs.KeyTextFound.{text_found}
+use Rattle.gvn_key.proofs.KeyTextFound.{text_found, chosen}
 use Rattle.gvn_key.specs.declared.key.KeyError.{KeyError}
 use Rattle.gvn_key.specs.declared.key.KeyError.TheVariants.{BadName}
 use Rattle.gvn_key.specs.declared.reader.ZwrError.{ZwrError}
 use Rattle.script_defs.specs.Parts.{IsNode, IsLevel, within, top, below, Fault, bad, followed, ends_at, part_end, word_end, key_end, without_spaces, alone, found, node_at, node_reading, valued, value_reading, sized, last_value, last_integer, last_node, assigned, level_of, top_level, below_level, empty_level, level_from, level_reading, last_level, too_long, BadChar}
 use Rattle.script_defs.specs.Statements.{IsOperand, set, kill, zkill, incr, get, defined, order, check_is, check_at_least, SpellsStatement, value_statement, node_statement, incr_reading, order_reading, is_at_least, check_integer, check_reading, operand_reading, statement_reading}
-
--- which way a test went
-chosen : {A : Type 0} (b : Bool) (x y z : A) → cond b x y ≡ z → ((b ≡ true) × (x ≡ z)) ⊎ ((b ≡ false) × (y ≡ z))
-chosen true x y z e = inl (refl, e)
-chosen false x y z e = inr (refl, e)
 
 followed_found : {X Y : Type 0} (r : Result X Fault) (next : X → Result Y Fault) (y : Y) → followed r next ≡ Ok y → (x : X) × (r ≡ Ok x) × (next x ≡ Ok y)
 followed_found (Ok x) next y e = (x, refl, e)
@@ -36,10 +31,6 @@ followed_found (Err f) next y e = cc
 found_found : {X : Type 0} (len : ℕ) (left : List ℕ) (o : Option X) (x : X) → found len left o ≡ Ok x → o ≡ Some x
 found_found len left None x e = cc
 found_found len left (Some y) x e = cc
-
-none_left : (xs : List ℕ) → (length xs == 0) ≡ true → xs ≡ []
-none_left [] h = refl
-none_left (x ∷ xs) h = absurd (omega (arith, eqb-true (length (x ∷ xs)) 0 h))
 
 alone_found : {X : Type 0} (len : ℕ) (left : List ℕ) (x y : X) → alone len left x ≡ Ok y → (left ≡ []) × (x ≡ y)
 alone_found len left x y e = elim (chosen (length left == 0) (Ok x) (Err (bad len (without_spaces left))) (Ok y) e) [

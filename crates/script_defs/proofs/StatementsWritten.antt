@@ -1,12 +1,11 @@
 -- The canonical text of a statement spells it.
-use Rattle.std.proofs.Common.{◌≡◌, ℕ, ℤ, pos, negsuc, zero, suc, ◌+◌, ◌^◌, ◌<◌, ◌≤◌, true, false, nat_le, List, [], ◌∷◌, ◌++◌, length, fold, get_or, cond, codes, Some, refl, ap, sym, subst, ◌∙◌, arith, append_assoc, count_by, position}
-use Rattle.std.specs.List.{list_all, list_any, flat_map}
+use Rattle.std.proofs.Common.{◌≡◌, ℕ, ℤ, pos, negsuc, zero, suc, ◌^◌, ◌<◌, ◌≤◌, true, false, nat_le, List, [], ◌∷◌, ◌++◌, length, get_or, codes, Some, refl, ap, sym, subst, ◌∙◌, arith, append_assoc, count_by, position}
+use Rattle.std.specs.List.{list_all, list_any}
 use Rattle.std.specs.Char.{is_ascii_digit}
 use Rattle.std.specs.Fmt.{decimal}
-use Rattle.std.specs.Str.Parse.{AllDigits, digits_value}
+use Rattle.std.specs.Str.Parse.{digits_value}
 use Rattle.std.proofs.lemmas.List.{append-nil}
 use Rattle.std.proofs.lemmas.Fmt.{decimal_digit, first_decimal, length-decimal-le}
-use Rattle.std.proofs.lemmas.Str.Parse.{digit_from_value}
 use Rattle.std.proofs.lemmas.Bool.{and_parts, ne_eqb, le-leb, ltb-true}
 use Rattle.global_defs.specs.Key.{Key, Sub, Text, sub_of}
 use Rattle.global_defs.specs.Jobs.{Statement, Set, Kill, ZKill, Incr, Get, Defined, Order, CheckIs, CheckAtLeast}
@@ -19,24 +18,14 @@ use Rattle.global_defs.proofs.NumberText.{decimal_is}
 use Rattle.gvn_key.specs.ZwrText.{IsBytes}
 use Rattle.gvn_key.specs.KeyText.{IsSubText, string}
 use Rattle.gvn_key.proofs.ZwrWritten.{zwr_written}
-use Rattle.gvn_key.proofs.KeyTextWritten.{written_read}
+use Rattle.gvn_key.proofs.KeyTextWritten.{written_read, others}
 use Rattle.script_defs.specs.Parts.{IsNode, IsLevel, within, top, below}
 use Rattle.script_defs.specs.Statements.{IsOperand, set, kill, zkill, incr, get, defined, order, check_is, check_at_least, SpellsStatement, behind_subs, text_above, statement_text, IsKey, HasLevel, IsStatement}
 use Rattle.script_defs.proofs.StatementsFound.{node_found}
+use Rattle.gvn_key.proofs.Decoded.{ascii_digits}
+use Rattle.gvn_key.proofs.CodeNumbers.{count_from}
 
 -- integers
-
-count_from : (n : ℕ) (ds : List ℕ) → list_all is_ascii_digit ds ≡ true → fold (λ a x. a + cond (is_ascii_digit x) 1 0) n ds ≡ n + length ds
-count_from n [] h = omega arith
-count_from n (c ∷ cs) h =
-    let a = and_parts (is_ascii_digit c) (list_all is_ascii_digit cs) h in
-    rw a.0 (omega (arith, count_from (n + 1) cs a.1))
-
-ascii_digits : (ds : List ℕ) → AllDigits 10 ds → list_all is_ascii_digit ds ≡ true
-ascii_digits [] h = refl
-ascii_digits (c ∷ cs) h =
-    let b = digit_from_value c h.0 in
-    rw (le-leb 48 c (omega (arith, b)), le-leb c 57 (omega (arith, b))) (ascii_digits cs h.1)
 
 digit_no_point : (c : ℕ) → is_ascii_digit c ≡ true → is_point c ≡ false
 digit_no_point c h = ne_eqb c 46 (λ e. let is : false ≡ true = sym (ap is_ascii_digit e) ∙ h in cc)
@@ -98,9 +87,6 @@ value_written : (v : List ℕ) → IsBytes v → IsSubText (zwr v) v
 value_written v h = string (zwr_written v h)
 
 -- levels
-
-abbrev others : List Sub → List ℕ
-others subs = flat_map (λ t. 44 ∷ sub_text t) subs
 
 others_more : (ss : List Sub) (s : Sub) → others (ss ++ (s ∷ [])) ≡ others ss ++ (44 ∷ sub_text s)
 others_more [] s = append-nil (44 ∷ sub_text s)

@@ -1,31 +1,16 @@
 -- The ends of a connection, and what they have still to move.
 use Rattle.std.proofs.Common.{◌≡◌, ◌≢◌, ◌⊎◌, inl, inr, ℕ, ◌+◌, ◌-◌, ◌<◌, ◌≤◌, Bool, true, false, IsTrue, List, [], ◌∷◌, ◌++◌, length, refl, sym, ap, ◌∙◌, arith, append-nil}
 use Rattle.wire_defs.specs.Frames.{Frame, IsFrame, BeginsFrame, spelled_frame}
-use Rattle.wire_defs.specs.Links.{Sending, Receiving, SameSending, SendingLooked, ReceivingLooked, KnowAll}
+use Rattle.wire_defs.specs.Links.{Sending, Receiving, SendingLooked, KnowAll}
 use Rattle.repl_wire.proofs.Apart.{frame_one}
 use Rattle.session_handshake.specs.Answering.{LIMIT, left_to_ask}
-use Rattle.session_handshake.specs.Exchanges.{Carries, Gets}
+use Rattle.session_handshake.specs.Exchanges.{Carries}
 
 pub carries_looked : (told : Bool) (whole left : List ℕ) (a b : Sending) → SendingLooked a b → Carries told whole a left → Carries told whole b left
 carries_looked told whole left a b x y = record {
   told_is = x.same.told ∙ y.told_is;
   going = λ t. (x.finished ∙ (y.going t).0, omega (arith, x.same.places, (y.going t).1));
   sent = λ t. ap (λ (l : List ℕ). l ++ left) x.sent ∙ y.sent t;
-}
-
-pub carries_sent : (told : Bool) (whole left now : List ℕ) (a b : Sending) → SameSending a b → b.finished ≡ a.finished → (IsTrue a.told → b.sent ++ now ≡ a.sent ++ left) → Carries told whole a left → Carries told whole b now
-carries_sent told whole left now a b x fin sent y = record {
-  told_is = x.told ∙ y.told_is;
-  going = λ t. (fin ∙ (y.going t).0, omega (arith, x.places, (y.going t).1));
-  sent = λ t. sent (y.told_is ∙ t) ∙ y.sent t;
-}
-
-pub gets_looked : (told shown : Bool) (received : List ℕ) (a b : Receiving) → ReceivingLooked a b → Gets told shown a received → Gets told shown b received
-gets_looked told shown received a b x y = record {
-  told_is = x.same.told ∙ y.told_is;
-  shown_is = x.same.shown ∙ y.shown_is;
-  closed = x.closed ∙ y.closed;
-  received_is = λ s. x.received ∙ y.received_is s;
 }
 
 -- Where both ends know all, a byte can be sent or is unread, unless the whole frame has come.

@@ -1,11 +1,11 @@
 -- What a primary makes of the bytes that come to it.
 use Rattle.std.proofs.Common.{◌≡◌, ◌≢◌, inl, inr, ℕ, ◌≤◌, map, get_or, true, false, List, [], ◌∷◌, ◌++◌, length, Ok, Err, refl, sym, ap, subst, ◌∙◌, arith, append_assoc, append-nil, length-append}
 use Rattle.global_defs.specs.Prefix as prefix
-use Rattle.wire_defs.specs.Frames.{Frame, BeginsNone, BeginsFrame, AreFrames, spelled_frame, stream}
+use Rattle.wire_defs.specs.Frames.{Frame, BeginsFrame, AreFrames, spelled_frame, stream}
 use Rattle.repl_wire.specs.declared.frame.Frame.{Frame as Given}
 use Rattle.repl_wire.specs.Values.{frame_value}
 use Rattle.repl_wire.specs.Feeds.{Takes}
-use Rattle.ship_defs.specs.Directions.{refused, begins_none, behind_last, too_short}
+use Rattle.ship_defs.specs.Directions.{refused, behind_last, too_short}
 use Rattle.ship_defs.specs.Greeting.{IsBadToPrimary}
 use Rattle.receiver_server.specs.declared.step.Handshake.{Handshake}
 use Rattle.receiver_server.specs.Answers.{answer_frame}
@@ -58,9 +58,6 @@ module _ (theirs : prefix.History) (bytes : List ℕ) (f : Frame) (fs : List Fra
         lacks = behind_last refl some;
         at = j.1 ∙ omega (arith, one, short);
       }
-
-pub bad_first : (bytes : List ℕ) → BeginsNone bytes → IsBadToPrimary bytes false 0
-bad_first bytes none = record { frames = []; rest = bytes; now = false; come = record { are = record { whole = refl; each = tt }; admitted = refl }; lacks = begins_none none; at = refl }
 
 pub bad_early : (bytes : List ℕ) → BeginsFrame bytes → IsBadToPrimary bytes true 0
 bad_early bytes begun = record {

@@ -3,7 +3,7 @@ use Rattle.std.proofs.Common.{◌≡◌, ◌⊎◌, inl, inr, ℕ, ◌+◌, ◌-
 use Rattle.wire_defs.specs.Frames.{Frame, Hello, Resume, RollbackFirst, History, Entry, Bye, IsFrame, BeginsFrame, spelled_frame, stream, offset_after}
 use Rattle.ship_defs.specs.Arrivals.{arrivals}
 use Rattle.ship_defs.specs.Hearing as ship
-use Rattle.ship_defs.specs.Hearing.{Purpose, Heard, Last, Fits, IsUnbegun, Unbegun}
+use Rattle.ship_defs.specs.Hearing.{Purpose, Heard, Last, Fits, Unbegun}
 use Rattle.receiver_server.specs.Hearings.{behind}
 use Rattle.receiver_server.specs.Incomings.{Incoming, unheard}
 use Rattle.receiver_server.specs.Answers.{answer_frame}
@@ -41,11 +41,6 @@ none_put (handshake.Resume n) = refl
 none_put (handshake.RollbackFirst n) = refl
 
 -- bytes that came are fewer that are left
-
-left_most : (waiting : List Frame) (bad : Bool) (rest : ℕ) → left_behind waiting bad rest ≤ LIMIT + 1 - rest
-left_most [] true rest = omega arith
-left_most [] false rest = omega arith
-left_most (f ∷ fs) bad rest = omega arith
 
 left_here : (i : Incoming) → i.waiting ≡ [] → i.bad ≡ false → left_of i ≡ LIMIT + 1 - length i.reading.rest
 left_here i none good = ap (λ (w : List Frame). left_behind w i.bad (length i.reading.rest)) none ∙ ap (λ (b : Bool). left_behind [] b (length i.reading.rest)) good

@@ -5,24 +5,11 @@ use Rattle.std.specs.List.{AllByRecursion}
 use Rattle.std.proofs.Math.Seq.{drop-append_seam}
 use Rattle.std.proofs.lemmas.List.Sums.{fold-append, sum_by-append, sum_by-cons}
 use Rattle.std.proofs.lemmas.Bool.Decides.{nat_tests}
-use Rattle.wire_defs.specs.Links.{Linking, Past, SameLinks, ConnectionMade, CutsAdded, counted, was_cut, cut_at_once, past_since}
+use Rattle.wire_defs.specs.Links.{Linking, Past, ConnectionMade, CutsAdded, counted, was_cut, past_since}
 use Rattle.session_handshake.specs.Connections.{WereMade}
 
 abbrev cuts_after : ℕ → List Past → ℕ
 cuts_after n over = fold (λ n p. counted n p.cuts) n over
-
-pub made_refused : (a b : Linking) (s : ℕ) → SameLinks a b → WereMade a b s []
-made_refused a b s x = record {
-  told = x.told;
-  shown = x.shown;
-  simulated = x.simulated;
-  past = x.past ∙ sym (append-nil a.past);
-  own = tt;
-  once = tt;
-  cuts = x.cuts s;
-  other_cuts = λ t _. x.cuts t;
-  other_orders = λ t _. x.orders t;
-}
 
 pub made_none : (a : Linking) (s : ℕ) → WereMade a a s []
 made_none a s = record { told = refl; shown = refl; simulated = refl; past = sym (append-nil a.past); own = tt; once = tt; cuts = refl; other_cuts = λ t _. refl; other_orders = λ t _. refl }
@@ -55,19 +42,6 @@ made_settled a b c s p x y past own once = record {
   cuts = y.added ∙ ap (λ (n : ℕ). counted n p.cuts) (x.cuts s);
   other_cuts = λ t ne. y.others t ne ∙ x.cuts t;
   other_orders = λ t ne. y.orders t ∙ x.others t ne;
-}
-
-pub made_cut : (a b : Linking) (s : ℕ) → CutsAdded a b s 1 → b.past ≡ a.past ++ cut_at_once s ∷ [] → WereMade a b s (cut_at_once s ∷ [])
-made_cut a b s y past = record {
-  told = y.told;
-  shown = y.shown;
-  simulated = y.simulated;
-  past = past;
-  own = (refl, tt);
-  once = (omega arith, tt);
-  cuts = y.added;
-  other_cuts = λ t ne. y.others t ne;
-  other_orders = λ t ne. y.orders t;
 }
 
 own_all : (s : ℕ) (over : List Past) → AllByRecursion (λ p. p.session ≡ s) over → filter (λ p. p.session == s) over ≡ over

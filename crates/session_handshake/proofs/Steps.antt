@@ -4,7 +4,7 @@ use Rattle.wire_defs.specs.Frames.{Frame, BeginsFrame}
 use Rattle.wire_defs.specs.Links.{Receiving}
 use Rattle.ship_defs.specs.Arrivals.{Arrival, arrivals}
 use Rattle.ship_defs.specs.Hearing as ship
-use Rattle.ship_defs.specs.Hearing.{Heard, Last, Unbegun}
+use Rattle.ship_defs.specs.Hearing.{Heard, Unbegun}
 use Rattle.receiver_server.specs.Hearings.{behind}
 use Rattle.receiver_server.specs.Answers.{answer_frame, is_ended, patience_cost, IsOverAnswer}
 use Rattle.receiver_server.specs.Listenings.{Listening, IsHearing, IsIdle, IsQuiet, IsUnfitBehind, Hears, Does}
@@ -24,7 +24,7 @@ use Rattle.session_handshake.proofs.Hears.{none_else, heard_answer, none_put, go
 abbrev pub Keeps : Result Step HearError → (a b : Listening) (ra rb : Receiving) (pa pb : List Arrival) → Type 0
 Keeps r a b ra rb pa pb = IsTrue ra.shown → (begun : Heard) (frames : List Frame) → IsHearing begun a ra.received pa frames → (now : List Frame) × Hears r frames now × IsHearing begun b rb.received pb now
 
-abbrev Answer : Type 0
+abbrev pub Answer : Type 0
 Answer = Result (Option Handshake) GreetError
 
 module _ (a b : Listening) (ra rb : Receiving) (pa pb : List Arrival) (fa fb : ℕ) (w : AwaitsAnswer a ra.shown ra.received pa fa) (seen : rb.shown ≡ ra.shown) (places : fa + length pa ≤ fb + length pb) where

@@ -1,18 +1,14 @@
 -- A turn over a connection: its ends look, and then one of each direction is used.
-use Rattle.std.proofs.Common.{◌≡◌, ◌≢◌, ◌⊎◌, inl, inr, ℕ, ◌+◌, ◌<◌, ◌≤◌, Bool, true, false, IsTrue, List, [], length, Option, None, Result, Ok, Err, IfOk, OnOk, refl, ◌∙◌, arith}
-use Rattle.wire_defs.specs.Links.{Receiving, SameReceiving, SendingLooked, ReceivingLooked}
-use Rattle.wire_defs.proofs.Ends.{sending_on, receiving_on, looked_on, saw_on, not_looked, not_seen}
+use Rattle.std.proofs.Common.{◌≡◌, ◌≢◌, ◌⊎◌, inl, inr, ℕ, ◌+◌, ◌<◌, ◌≤◌, Bool, true, false, IsTrue, List, [], length, None, Ok, Err, IfOk, refl, ◌∙◌, arith}
+use Rattle.wire_defs.specs.Links.{SendingLooked, ReceivingLooked}
+use Rattle.wire_defs.proofs.Ends.{sending_on, receiving_on, looked_on, saw_on}
 use Rattle.recv_pool.specs.declared.pool.PoolIn.{PoolIn}
 use Rattle.recv_pool.specs.Pools.{SameIn}
-use Rattle.receiver_server.specs.declared.step.Handshake.{Handshake}
 use Rattle.receiver_server.specs.Incomings.{Incoming}
-use Rattle.session_handshake.specs.declared.connection.GreetError.{GreetError}
 use Rattle.session_handshake.specs.Answering.{left_to_ask, left_of, left_to_hear}
 use Rattle.session_handshake.specs.Exchanges.{Views, SameEnds, Carries, Gets, cuts_of}
 use Rattle.session_handshake.proofs.Ends.{asks_fewer}
-
-abbrev Answer : Type 0
-Answer = Result (Option Handshake) GreetError
+use Rattle.session_handshake.proofs.Steps.{Answer}
 
 pub ends_on : (a b c : Views) → SameEnds a b → SameEnds b c → SameEnds a c
 ends_on a b c x y = record {
@@ -20,25 +16,6 @@ ends_on a b c x y = record {
   up_rx = receiving_on a.up_rx b.up_rx c.up_rx x.up_rx y.up_rx;
   down_tx = sending_on a.down_tx b.down_tx c.down_tx x.down_tx y.down_tx;
   down_rx = receiving_on a.down_rx b.down_rx c.down_rx x.down_rx y.down_rx;
-}
-
-pub ends_same : (a : Views) → SameEnds a a
-ends_same a = record {
-  up_tx = record { session = refl; connection = refl; told = refl; order = refl; places = refl };
-  up_rx = record { session = refl; connection = refl; told = refl; shown = refl; order = refl };
-  down_tx = record { session = refl; connection = refl; told = refl; order = refl; places = refl };
-  down_rx = record { session = refl; connection = refl; told = refl; shown = refl; order = refl };
-}
-
--- what an end has received so far
-pub gets_of : (told shown : Bool) (rest more : List ℕ) (old mid new : Receiving) (m : Answer) → Gets told shown old rest → ReceivingLooked old mid → SameReceiving mid new → OnOk m (new.closed ≡ false)
-    → (IsTrue mid.shown → mid.received ≡ rest → IfOk m (λ o. o ≡ None → new.received ≡ more)) → IfOk m (λ o. o ≡ None → Gets told shown new more)
-gets_of told shown rest more old mid new (Err e) gets looked same closed kept = tt
-gets_of told shown rest more old mid new (Ok o) gets looked same closed kept = λ none. record {
-  told_is = same.told ∙ (looked.same.told ∙ gets.told_is);
-  shown_is = same.shown ∙ (looked.same.shown ∙ gets.shown_is);
-  closed = closed;
-  received_is = λ s. kept (looked.same.shown ∙ (gets.shown_is ∙ s)) (looked.received ∙ gets.received_is s) none;
 }
 
 -- each step sends a byte or receives one, or costs patience
@@ -99,9 +76,6 @@ asking_on told shown whole v w u left rest now more x same tx rx carries gets cu
   uncut = cuts ∙ x.uncut;
 }
 
-pub asking_first : (told shown : Bool) (whole : List ℕ) (v : Views) → Carries told whole v.down_tx whole → Gets told shown v.up_rx [] → cuts_of v ≡ 0 → IsAsking told shown whole v v whole []
-asking_first told shown whole v carries gets zero = record { same = ends_same v; up_tx = not_looked v.up_tx; down_rx = not_seen v.down_rx; carries = carries; gets = gets; uncut = zero }
-
 -- while the answer is
 pub record IsAnswering (told : Bool) (whole : List ℕ) (v w : Views) (left : List ℕ) : Type 0 where
   pub same : SameEnds v w
@@ -119,9 +93,6 @@ answering_on told whole v w u left now x same tx rx carries cuts = record {
   carries = carries;
   uncut = cuts ∙ x.uncut;
 }
-
-pub answering_first : (told : Bool) (whole : List ℕ) (v : Views) → Carries told whole v.up_tx whole → cuts_of v ≡ 0 → IsAnswering told whole v v whole
-answering_first told whole v carries zero = record { same = ends_same v; down_tx = not_looked v.down_tx; up_rx = not_seen v.up_rx; carries = carries; uncut = zero }
 
 pub same_in : (a b c : PoolIn) → SameIn a b → SameIn b c → SameIn a c
 same_in a b c x y = ((y.0.0 ∙ x.0.0, y.0.1 ∙ x.0.1, y.0.2 ∙ x.0.2, y.0.3 ∙ x.0.3), y.1 ∙ x.1)

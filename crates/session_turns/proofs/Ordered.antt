@@ -1,5 +1,5 @@
 -- What was followed is the first of what was received, and that of what was sent, which is the primary's.
-use Rattle.std.proofs.Common.{◌≡◌, ◌≢◌, ◌⊎◌, inl, inr, ℕ, ◌+◌, ◌-◌, ◌≤◌, Bool, true, false, List, [], ◌∷◌, ◌++◌, length, map, Option, Some, None, refl, sym, ap, subst, ◌∙◌, arith, append_assoc, append-nil, length-append, ◌==◌, ◌||◌, if◌then◌else◌}
+use Rattle.std.proofs.Common.{◌≡◌, ◌≢◌, ◌⊎◌, inl, inr, ℕ, ◌+◌, ◌-◌, ◌≤◌, Bool, true, false, List, [], ◌∷◌, ◌++◌, length, Option, Some, None, refl, sym, ap, subst, ◌∙◌, arith, append_assoc, append-nil, length-append, ◌==◌, ◌||◌, if◌then◌else◌}
 use Rattle.std.specs.List.{AllByRecursion}
 use Rattle.std.proofs.lemmas.List.{length-map}
 use Rattle.global_defs.specs.Entry.{Transaction, Sequence, Reign}
@@ -10,10 +10,10 @@ use Rattle.repl_wire.proofs.Feeding.{stream_more}
 use Rattle.ship_defs.specs.Shipping.{reign_at, announced, entry_frame, shipped, shipped_bytes, bytes_from, resumed, resumed_bytes, connection}
 use Rattle.ship_defs.specs.Directions.{Admitted}
 use Rattle.ship_defs.specs.Hearing as ship
-use Rattle.ship_defs.specs.Hearing.{Heard, Fits, unbegun, entered, with_entry, with_reign}
+use Rattle.ship_defs.specs.Hearing.{Heard, Fits, unbegun}
 use Rattle.ship_defs.specs.Arrivals.{Arrival, arrivals, entries_of, HasEntries, BringsTo, IsInOrder}
 use Rattle.ship_laws.proofs.Streams.{resumed_is, frames_front, carried_front, based, brought, once}
-use Rattle.ship_laws.proofs.Stamped.{sent_front, connection_entries}
+use Rattle.ship_laws.proofs.Stamped.{sent_front, connection_entries, transactions}
 use Rattle.source_server.specs.Sources.{Shipping, bye_if}
 use Rattle.update_process.specs.Copies.{Copy, next_of}
 use Rattle.session_turns.specs.Following.{Followed, HasFit}
@@ -91,9 +91,6 @@ pub followed_kept : (begun c : Copy) (put : List Arrival) (f : HasFit begun put)
 followed_kept begun c put f follows =
     let own = (followed_told f.purpose begun c f.frames f.now put [] f.fit f.admitted (sym f.arrive ∙ sym (append-nil put)) follows).1 in
     (entries_of None put, own)
-
-abbrev transactions : Sequence → List Transaction
-transactions part = map (λ e. e.transaction) part
 
 pub in_order : (begun c : Copy) (put : List Arrival) (f : HasFit begun put) (s : Shipping) (part : Sequence) (size : ℕ) (sent received rest : List ℕ) (given : List (List ℕ)) (r q : Sequence)
     → HasMade (next_of begun) size s sent given → AreFirst (next_of begun) given (transactions part) → size ≡ length (begun.sequence ++ part) → HasStamps s.reigns (begun.sequence ++ part)

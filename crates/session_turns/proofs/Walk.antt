@@ -1,6 +1,6 @@
 -- A secondary's site takes the entries that came, each in its turn and under its reign.
 use Rattle.std.proofs.Common.{◌≡◌, ◌≢◌, ◌⊎◌, inl, inr, ℕ, ◌+◌, ◌≤◌, ◌==◌, nat_le, Bool, true, false, List, [], ◌∷◌, ◌++◌, length, Option, Some, None, refl, sym, ap, subst, ◌∙◌, arith, append_assoc, append-nil, length-append, if◌then◌else◌}
-use Rattle.std.specs.Prelude.{option_map, option_to_list}
+use Rattle.std.specs.Prelude.{option_to_list}
 use Rattle.std.specs.Option.{option_or}
 use Rattle.std.specs.List.{AllByRecursion, last_or}
 use Rattle.std.proofs.lemmas.Bool.Decides.{nat_tests}
@@ -16,13 +16,8 @@ use Rattle.update_process.specs.Copies.{Copy, history_of, next_of, MayAdopt, tol
 use Rattle.update_process.specs.Updates.{Follows}
 use Rattle.receiver_server.specs.Hearings.{reign_behind}
 use Rattle.session_turns.specs.Following.{Followed, IsFitCopy, InTurn}
-
-abbrev stamped : Option Reign → Option Stamp
-stamped o = option_map (λ (r : Reign). r.stamp) o
-
-or_or : (a b : Option Stamp) (s : Stamp) → option_or (option_or a (Some s)) b ≡ option_or a (Some s)
-or_or None b s = refl
-or_or (Some x) b s = refl
+use Rattle.ship_laws.proofs.Stamped.{stamped, or_or}
+use Rattle.receiver_server.proofs.Steps.{behind_none, either_shipped}
 
 last_stamp : (n : ℕ) (rs : List Reign) (o : Option Reign) → AllByRecursion (λ r. r.start ≤ n) rs → stamped (last_or o rs) ≡ option_or (stamp_at n rs) (stamped o)
 last_stamp n [] o all = refl
@@ -185,14 +180,6 @@ not_shipped ship.Ships = λ e. cc
 not_reigning : (p : Purpose) (r : Reign) → behind_resume p ≢ ship.Reigning r
 not_reigning ship.Asks r = λ e. cc
 not_reigning ship.Ships r = λ e. cc
-
-behind_none : (p : Purpose) → reign_behind (behind_resume p) ≡ None
-behind_none ship.Asks = refl
-behind_none ship.Ships = refl
-
-either_shipped : (h : Heard) (r : Reign) (b : Bool) → (if b then with_reign h r else with_entry h).last ≡ ship.Shipped
-either_shipped h r true = refl
-either_shipped h r false = refl
 
 pub entered_shipped : (h : Heard) (l : ship.Last) → (entered h l).last ≡ ship.Shipped
 entered_shipped h (ship.Reigning r) = either_shipped h r (r.start == h.count + 1)

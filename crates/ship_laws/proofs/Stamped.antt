@@ -13,7 +13,7 @@ use Rattle.ship_defs.specs.Shipping.{reign_at, announced, shipped, resumed, conn
 use Rattle.ship_defs.specs.Arrivals.{Arrival, told_reign, arrived, arrivals, entries_of, HasEntries, BringsTo}
 use Rattle.ship_laws.proofs.Streams.{front, based}
 
-or_or : (a b : Option Stamp) (s : Stamp) → option_or (option_or a (Some s)) b ≡ option_or a (Some s)
+pub or_or : (a b : Option Stamp) (s : Stamp) → option_or (option_or a (Some s)) b ≡ option_or a (Some s)
 or_or None b s = refl
 or_or (Some x) b s = refl
 
@@ -21,7 +21,7 @@ or_none : (a b : Option Stamp) → option_or (option_or a None) b ≡ option_or 
 or_none None b = refl
 or_none (Some x) b = refl
 
-abbrev stamped : Option Reign → Option Stamp
+abbrev pub stamped : Option Reign → Option Stamp
 stamped o = option_map (λ (r : Reign). r.stamp) o
 
 -- the last reign that has begun by a number has the stamp of that number
@@ -52,7 +52,7 @@ reign_of n rs s is = to_reign (reign_at n rs) s (last_stamp n rs None ∙ (or_it
 abbrev Kept : Reign → (o now : Option Reign) → Type 0
 Kept r o now = now ≡ Some r → o ≡ Some r
 
-three : (start k : ℕ) → (start ≤ k) ⊎ ((start ≡ suc k) ⊎ (suc k < start))
+pub three : (start k : ℕ) → (start ≤ k) ⊎ ((start ≡ suc k) ⊎ (suc k < start))
 three start k = grind arith
 
 places : (k : ℕ) (x : Reign) → (nat_le x.start k ≡ nat_le x.start (suc k)) ⊎ ((nat_le x.start k ≡ false) × (nat_le x.start (suc k) ≡ true) × (x.start ≡ suc k))

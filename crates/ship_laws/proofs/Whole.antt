@@ -1,8 +1,8 @@
 -- What a primary ships is admissible to a secondary that has the first of its entries under its reigns.
-use Rattle.std.proofs.Common.{◌≡◌, ◌⊎◌, inl, inr, ℕ, suc, ◌+◌, ◌-◌, ◌<◌, ◌≤◌, ◌==◌, nat_le, Bool, true, false, List, [], ◌∷◌, ◌++◌, length, fold, Option, Some, None, refl, sym, ap, subst, ◌∙◌, arith, append_assoc, append-nil, length-append}
+use Rattle.std.proofs.Common.{◌≡◌, inl, inr, ℕ, suc, ◌+◌, ◌-◌, ◌<◌, ◌≤◌, ◌==◌, nat_le, Bool, true, false, List, [], ◌∷◌, ◌++◌, length, fold, Option, Some, None, refl, sym, ap, subst, ◌∙◌, arith, append_assoc, append-nil, length-append}
 use Rattle.std.specs.List.{AllByRecursion, last_or}
 use Rattle.std.proofs.lemmas.Bool.Decides.{nat_tests}
-use Rattle.global_defs.specs.Entry.{Transaction, Sequence, Reign, Globals, apply}
+use Rattle.global_defs.specs.Entry.{Sequence, Reign, Globals, apply}
 use Rattle.global_defs.specs.Entry as entries
 use Rattle.global_defs.specs.Prefix as prefix
 use Rattle.global_defs.specs.Prefix.{IsPrefix, stamp_at}
@@ -13,7 +13,7 @@ use Rattle.ship_defs.specs.Hearing.{Ships, Last, Unbegun, Resumed, Reigning, Shi
 use Rattle.ship_defs.specs.Shipping.{reign_at, announced, shipped, resumed, connection}
 use Rattle.ship_laws.proofs.Walks.{bad_or_ended, stays_bad}
 use Rattle.ship_laws.proofs.Rules.{admits_one, admits_out}
-use Rattle.ship_laws.proofs.Stamped.{reign_of, get_behind, Stamps, stamps_first, stamps_later, transactions}
+use Rattle.ship_laws.proofs.Stamped.{reign_of, get_behind, Stamps, stamps_first, stamps_later, transactions, three as cases_of}
 
 -- from one number to the next no reign begins, or one behind all others
 data Turn (rs : List Reign) (k : ℕ) : Type 0 where
@@ -42,9 +42,6 @@ turn_later r rs k past rise =
     let a : nat_le r.start k ≡ false = grind (arith, nat_tests) in
     let b : nat_le r.start (suc k) ≡ false = grind (arith, nat_tests) in
     stays (rw (a, b) (rw (none_begun k r.start rs (omega arith) rise, none_begun (suc k) r.start rs (omega arith) rise) refl))
-
-cases_of : (start k : ℕ) → (start ≤ k) ⊎ ((start ≡ suc k) ⊎ (suc k < start))
-cases_of start k = grind arith
 
 turn : (low k : ℕ) (rs : List Reign) → StartsRise low rs → Turn rs k
 turn low k [] rise = stays refl

@@ -1,10 +1,10 @@
 -- Over links that tell their bytes: what a secondary's site has is the first of its primary's sequence.
-use Rattle.std.proofs.Common.{◌≡◌, inl, ℕ, ◌+◌, ◌-◌, List, [], ◌∷◌, ◌++◌, length, drop, map, refl, sym, ap, subst, ◌∙◌, arith, append_assoc, append-nil, length-append}
+use Rattle.std.proofs.Common.{◌≡◌, inl, ℕ, ◌+◌, ◌-◌, List, [], ◌∷◌, ◌++◌, length, drop, refl, sym, ap, subst, ◌∙◌, arith, append_assoc, append-nil, length-append}
 use Rattle.std.specs.Prelude.{None}
 use Rattle.std.specs.List.{AllByRecursion}
 use Rattle.std.proofs.Math.Seq.{drop-append_seam}
 use Rattle.std.proofs.lemmas.List.{length-map}
-use Rattle.global_defs.specs.Entry.{Transaction, Sequence, Reign}
+use Rattle.global_defs.specs.Entry.{Sequence, Reign}
 use Rattle.global_defs.specs.Prefix as prefix
 use Rattle.global_defs.specs.Prefix.{IsPrefix}
 use Rattle.lineage_defs.specs.Histories.{HasStamps}
@@ -12,15 +12,12 @@ use Rattle.wire_defs.specs.Frames.{Resume, IsFrame, frame_type, AreFrames, strea
 use Rattle.ship_defs.specs.Shipping.{connection}
 use Rattle.ship_defs.specs.Arrivals.{Arrival, arrivals, entries_of, HasEntries}
 use Rattle.ship_laws.proofs.Streams.{frames_front, carried_front, entries_more, based, once}
-use Rattle.ship_laws.proofs.Stamped.{connection_entries}
+use Rattle.ship_laws.proofs.Stamped.{connection_entries, transactions}
 use Rattle.source_server.specs.Sources.{Shipping, AllFrom}
 use Rattle.update_process.specs.Copies.{Copy, next_of}
 use Rattle.session_turns.specs.Sessions.{HasGiven, AreFirst}
 use Rattle.session_turns.proofs.Ordered.{made_bytes, all_followed}
 use Rattle.ship_session.specs.Ends.{IsEntryOf, Gives, HasGot, HasGrown, HasAppliedAll}
-
-abbrev transactions : Sequence → List Transaction
-transactions part = map (λ e. e.transaction) part
 
 pub onward : {X : Type 0} (a b c : List X) → IsPrefix a b → IsPrefix b c → IsPrefix a c
 onward {X} a b c p q = (p.0 ++ q.0, q.1 ∙ (ap (λ (l : List X). l ++ q.0) p.1 ∙ append_assoc a p.0 q.0))

@@ -1,8 +1,7 @@
 -- What one connection of a session came to.
-use Rattle.std.proofs.Common.{◌≡◌, ◌≢◌, inl, inr, ℕ, ◌+◌, ◌<◌, ◌≤◌, ◌^◌, Bool, true, false, IsTrue, List, [], ◌∷◌, Option, Some, None, Result, Ok, Err, IfOk, refl, ap, subst, arith, if◌then◌else◌}
+use Rattle.std.proofs.Common.{◌≡◌, ◌≢◌, inl, inr, ℕ, ◌+◌, ◌<◌, ◌≤◌, Bool, true, false, IsTrue, [], ◌∷◌, Option, Some, None, Result, Ok, Err, IfOk, refl, ap, subst, arith, if◌then◌else◌}
 use Rattle.std.specs.Prelude.{count_by}
 use Rattle.std.proofs.lemmas.List.Sums.{sum_by-cons}
-use Rattle.global_defs.specs.Entry.{Reign}
 use Rattle.global_defs.specs.Prefix as prefix
 use Rattle.lineage_defs.specs.Histories.{BothHave, IsCommonOf}
 use Rattle.wire_defs.specs.Links.{Past, was_cut}
@@ -12,7 +11,6 @@ use Rattle.ship_defs.specs.Hearing.{Ships, Heard, Over, unbegun}
 use Rattle.ship_defs.specs.Greeting.{IsAnswer, GreetsWith, carried}
 use Rattle.receiver_server.specs.Hearings.{behind}
 use Rattle.receiver_server.specs.Listenings.{Listening, IsHearing, IsQuiet}
-use Rattle.source_server.specs.Sources.{resumed_at}
 use Rattle.receiver_server.specs.declared.step.Handshake.{Handshake}
 use Rattle.receiver_server.specs.declared.step.Handshake.TheVariants as handshake
 use Rattle.receiver_server.specs.Answers.{answer_frame}
@@ -20,7 +18,6 @@ use Rattle.update_process.specs.Copies.{Copy}
 use Rattle.session_handshake.specs.Exchanges.{Views, cuts_of}
 use Rattle.session_handshake.specs.Connections.{past_of_views, IsAnsweredOver}
 use Rattle.session_handshake.proofs.Greets.{not_cut, was_one, ends_answered}
-use Rattle.session_turns.specs.Sessions.{CanGive}
 use Rattle.session_turns.specs.declared.machines.TurnError.{TurnError}
 use Rattle.ship_session.specs.declared.end.SessionEnd.{SessionEnd}
 use Rattle.ship_session.specs.declared.end.SessionEnd.TheVariants.{At, LinkCut, RollbackFirst, BadFrame, Failed}
@@ -70,11 +67,6 @@ not_common theirs mine t c less all = c.greatest mine.length less all.in_first a
 pub resumes_at : (theirs mine : prefix.History) (a : Handshake) (n : ℕ) → a ≡ handshake.Resume n → IsAnswer theirs (carried mine) (answer_frame a) → IsCommonOf mine.length theirs (carried mine) × (answer_frame a ≡ frames.Resume (mine.length + 1))
 resumes_at theirs mine (handshake.Resume m) n is x = (x.0, ap (λ (k : ℕ). frames.Resume k) x.1)
 resumes_at theirs mine (handshake.RollbackFirst m) n is x = absurd (let no : ⊥ = cc in no)
-
--- what is to come can be given
-pub can_give : (Ready : ℕ → Type 0) (reigns : List Reign) (theirs mine : prefix.History) → theirs.length < 2 ^ 40 → ((n : ℕ) → mine.length + 1 ≤ n → n ≤ theirs.length → Ready n) → IsCommonOf mine.length theirs (carried mine)
-    → CanGive Ready theirs.length (resumed_at reigns (mine.length + 1))
-can_give Ready reigns theirs mine few ready c = let within = c.in_first in record { few = few; within = omega (arith, within); ready = ready }
 
 -- what a secondary heard where its entries aren't the primary's
 pub rolls : (hist mine : prefix.History) (s : Listening) (p : Past) (a : Handshake) (n : ℕ) → a ≡ handshake.RollbackFirst n → mine ≡ hist → s.purpose ≡ Ships → s.heard ≡ behind Ships (unbegun mine) (answer_frame a) → (s.heard.last ≡ Over → IsQuiet s)

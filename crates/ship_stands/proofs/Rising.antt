@@ -1,23 +1,16 @@
 -- Reigns by rising starts.
-use Rattle.std.proofs.Common.{◌≡◌, ℕ, ◌<◌, List, [], ◌∷◌, ◌++◌, Bool, true, false, Option, Some, None, if◌then◌else◌, subst, sym, refl}
+use Rattle.std.proofs.Common.{◌≡◌, ℕ, ◌<◌, List, [], ◌∷◌, ◌++◌, Bool, true, false, Option, Some, None, if◌then◌else◌, subst, sym}
 use Rattle.std.specs.Prelude.{option_to_list}
 use Rattle.std.specs.List.{AllByRecursion}
 use Rattle.global_defs.specs.Fields.{IsReign}
 use Rattle.global_defs.specs.Entry.{Reign}
 use Rattle.lineage_defs.specs.Histories.{StartsRise}
+use Rattle.global_defs.proofs.Starts.{last_start}
 
 -- where the last of them begins, or this number
-abbrev pub last_start : ℕ → List Reign → ℕ
-last_start low [] = low
-last_start low (r ∷ rs) = last_start r.start rs
-
 pub rise_push : (low : ℕ) (rs : List Reign) (r : Reign) → StartsRise low rs → last_start low rs < r.start → StartsRise low (rs ++ r ∷ [])
 rise_push low [] r rises later = (later, tt)
 rise_push low (q ∷ rs) r rises later = (rises.0, rise_push q.start rs r rises.1 later)
-
-pub last_push : (low : ℕ) (rs : List Reign) (r : Reign) → last_start low (rs ++ r ∷ []) ≡ r.start
-last_push low [] r = refl
-last_push low (q ∷ rs) r = last_push q.start rs r
 
 pub all_push : (rs : List Reign) (r : Reign) → AllByRecursion IsReign rs → IsReign r → AllByRecursion IsReign (rs ++ r ∷ [])
 all_push [] r all is = (is, tt)

@@ -1,5 +1,5 @@
 -- A site that was cut off: it's read as before, and another generation may be drawn.
-use Rattle.std.proofs.Common.{◌≡◌, ℕ, suc, ◌+◌, ◌≤◌, ◌<◌, ◌^◌, List, [], ◌∷◌, ◌++◌, length, filter, Bool, inl, inr, Some, refl, sym, ◌∙◌, ap, subst, arith, append-nil, length-append}
+use Rattle.std.proofs.Common.{◌≡◌, ℕ, suc, ◌+◌, ◌≤◌, ◌<◌, ◌^◌, List, [], ◌∷◌, ◌++◌, length, filter, Bool, inl, inr, Some, refl, sym, ◌∙◌, ap, subst, arith, length-append}
 use Rattle.std.proofs.lemmas.Bool.{cases_Bool}
 use Rattle.std.specs.List.{AllByRecursion}
 use Rattle.disk_defs.specs.Disk.{Files}
@@ -12,13 +12,14 @@ use Rattle.journal_defs.specs.Surviving.{reigns}
 use Rattle.journal_defs.specs.Directory.{Pattern, patterns}
 use Rattle.journal_defs.specs.Sequence.{Placed}
 use Rattle.journal_defs.specs.Stands.{IsInstance, IsJournal, StartsRise}
-use Rattle.journal_laws.proofs.Drawing.{generation-cut, same_regions}
+use Rattle.journal_laws.proofs.Drawing.{generation-cut, same_regions, journal_empty}
 use Rattle.journal_laws.proofs.EveryTarget.{patterns_same}
 use Rattle.journal_laws.proofs.ImageSteps.{all_both}
 use Rattle.journal_laws.proofs.Runs.{reigns-cut, starts_by}
 use Rattle.instance_file.specs.Order.{AreInOrder}
 use Rattle.site_files.specs.Loading.{MayBeOpened, AreRead, HasDrawn, AreUnbegun, next_cut, next_journal}
 use Rattle.site_files.proofs.Kept.{journal_kept}
+use Rattle.instance_file.proofs.Mores.{rise_lower as starts_lower}
 
 -- a CUT of a later generation keeps the order
 create_first : (rs : List InstanceRecord) (n g : ℕ) → 0 < length rs → BeginsWithCreate rs → BeginsWithCreate (rs ++ Cut n g ∷ [])
@@ -37,10 +38,6 @@ cuts_rise (Reigned r ∷ rs) low n g rise above past = cuts_rise rs low n g rise
 cuts_rise (Map region star name ∷ rs) low n g rise above past = cuts_rise rs low n g rise above past
 cuts_rise (Mode region before ∷ rs) low n g rise above past = cuts_rise rs low n g rise above past
 
-starts_lower : (rs : List Reign) (low high : ℕ) → low ≤ high → StartsRise high rs → StartsRise low rs
-starts_lower [] low high le rise = tt
-starts_lower (r ∷ rs) low high le rise = (omega (arith, rise.0), rise.1)
-
 starts_kept : (f : Reign → Bool) (rs : List Reign) (low : ℕ) → StartsRise low rs → StartsRise low (filter f rs)
 starts_kept f [] low rise = tt
 starts_kept f (r ∷ rs) low rise = elim (cases_Bool (f r)) [
@@ -53,10 +50,6 @@ still_in_order rs n g some past order = record {
   ordered = record { create = create_first rs n g some order.ordered.create; cuts = cuts_rise rs 0 n g order.ordered.cuts (omega arith) past };
   reigns = subst (StartsRise 0) (sym (reigns-cut rs n g)) (starts_kept (starts_by n) (reigns rs) 0 order.reigns);
 }
-
--- a generation without a record
-journal_empty : (files : Files) (r g last : ℕ) (js : List Placed) → records (files (journal_file (suc g) r)) ≡ Some [] → IsJournal files r g last js → IsJournal files r (suc g) last js
-journal_empty files r g last js none h = (last, js, [], h, ([], none, tt), tt, refl, sym (append-nil js))
 
 module _ (rs : List InstanceRecord) (n : ℕ) (last : ℕ → ℕ) (form : MayBeOpened rs last) where
   abbrev pub with_cut : List InstanceRecord

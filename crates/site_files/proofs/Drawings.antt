@@ -27,7 +27,7 @@ use Rattle.site_files.specs.Loading.{MayBeOpened, WasRead, IsUncut, HasDrawnAs, 
 use Rattle.site_files.proofs.Beginning.{told_on, Sometime}
 
 -- a CUT gives no region a mode
-mode_cut : (rs : List InstanceRecord) (n g r : ℕ) → mode_of (rs ++ Cut n g ∷ []) r ≡ mode_of rs r
+pub mode_cut : (rs : List InstanceRecord) (n g r : ℕ) → mode_of (rs ++ Cut n g ∷ []) r ≡ mode_of rs r
 mode_cut [] n g r = refl
 mode_cut (x ∷ rs) n g r = ap (λ (o : Option Bool). option_or o (mode_in x r)) (mode_cut rs n g r)
 

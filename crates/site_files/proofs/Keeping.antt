@@ -29,9 +29,10 @@ use Rattle.journal_laws.proofs.ImageSteps as images
 use Rattle.journal_laws.proofs.RecordSteps as steps
 use Rattle.journal_laws.proofs.Runs as runs
 use Rattle.site_files.specs.Loading.{MayBeOpened, AreRead, IsUncut, HasDrawnAs, HasCut, next_cut, next_journal, next_broken, next_pini_as, starts_in_as, drawn_records_as}
+use Rattle.site_files.proofs.Kept.{journal_kept}
 
 -- A body is that of one record, and the record has one body, so a list of records has one list of bodies.
-zip_front : {R : Type 0} (P : Body → R → Type 0) → ((b d : Body) (r : R) → P b r → P d r → b ≡ d) → (bs ds : List Body) (rs qs : List R)
+pub zip_front : {R : Type 0} (P : Body → R → Type 0) → ((b d : Body) (r : R) → P b r → P d r → b ≡ d) → (bs ds : List Body) (rs qs : List R)
     → AllZip P bs rs → AllZip P ds (rs ++ qs) → (more : List Body) × (ds ≡ bs ++ more) × AllZip P more qs
 zip_front P one [] ds [] qs zip longer = (ds, refl, longer)
 zip_front P one [] ds (r ∷ rs) qs zip longer = absurd zip
@@ -41,7 +42,7 @@ zip_front P one (b ∷ bs) (d ∷ ds) (r ∷ rs) qs zip longer =
     let rest = zip_front P one bs ds rs qs zip.1 longer.1 in
     (rest.0, ap (λ (x : Body). x ∷ ds) (one d b r longer.0 zip.0) ∙ ap (λ (l : List Body). b ∷ l) rest.1, rest.2)
 
-one_instance_body : (b d : Body) (r : InstanceRecord) → IsInstanceBody b r → IsInstanceBody d r → b ≡ d
+pub one_instance_body : (b d : Body) (r : InstanceRecord) → IsInstanceBody b r → IsInstanceBody d r → b ≡ d
 one_instance_body b d r h k = h.spelled ∙ sym k.spelled
 
 -- files with the same records have the same open bodies
@@ -55,25 +56,12 @@ same_bodies {R} P one old new rs h k =
     none [] zip = refl
     none (b ∷ bs) zip = absurd zip
 
-last_one : (more : List Body) (x : InstanceRecord) → AllZip IsInstanceBody more (x ∷ []) → (body : Body) × (more ≡ body ∷ []) × IsInstanceBody body x
+pub last_one : (more : List Body) (x : InstanceRecord) → AllZip IsInstanceBody more (x ∷ []) → (body : Body) × (more ≡ body ∷ []) × IsInstanceBody body x
 last_one [] x zip = absurd zip
 last_one (b ∷ []) x zip = (b, refl, zip.0)
 last_one (b ∷ d ∷ bs) x zip = absurd zip.1
 
-journal_kept : (old new : Files) (q g last : ℕ) (js : List Placed) → ((h : ℕ) → 1 ≤ h → h ≤ g → new (journal_file h q) ≡ old (journal_file h q)) → IsJournal old q g last js → IsJournal new q g last js
-journal_kept old new q zero last js same h = h
-journal_kept old new q (suc g) last js same h = (
-  h.0,
-  h.1,
-  h.2,
-  journal_kept old new q g h.0 h.1 (λ k low high. same k low (omega (arith, high))) h.3,
-  subst (λ (file : List ℕ). Holds IsJournalBody file h.2) (sym (same (suc g) (omega arith) (omega arith))) h.4,
-  h.5,
-  h.6,
-  h.7,
-)
-
-no_bytes : (bytes : List ℕ) → length bytes ≤ 0 → bytes ≡ []
+pub no_bytes : (bytes : List ℕ) → length bytes ≤ 0 → bytes ≡ []
 no_bytes [] none = refl
 no_bytes (b ∷ bytes) none = absurd (omega (arith, none))
 

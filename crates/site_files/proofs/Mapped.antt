@@ -6,6 +6,7 @@ use Rattle.std.proofs.lemmas.List.Elements.{filter_map-append}
 use Rattle.journal_defs.specs.Directory.{Pattern, pattern_in, patterns}
 use Rattle.instance_file.specs.declared.record.InstanceRecord as code
 use Rattle.instance_file.specs.Values.{record_value}
+use Rattle.block_laws.proofs.ModeSteps.{all_behind}
 
 all_before : {X : Type 0} (P : X → Type 0) (xs ys : List X) → AllByRecursion P (xs ++ ys) → AllByRecursion P xs
 all_before P [] ys all = tt
@@ -14,10 +15,6 @@ all_before P (x ∷ xs) ys all = (all.0, all_before P xs ys all.1)
 all_both : {X : Type 0} (P : X → Type 0) (xs ys : List X) → AllByRecursion P xs → AllByRecursion P ys → AllByRecursion P (xs ++ ys)
 all_both P [] ys xs-all ys-all = ys-all
 all_both P (x ∷ xs) ys xs-all ys-all = (xs-all.0, all_both P xs ys xs-all.1 ys-all)
-
-all_behind : {X : Type 0} (P : X → Type 0) (xs ys : List X) → AllByRecursion P (xs ++ ys) → AllByRecursion P ys
-all_behind P [] ys all = all
-all_behind P (x ∷ xs) ys all = all_behind P xs ys all.1
 
 abbrev of : List code.InstanceRecord → List Pattern
 of xs = patterns (map record_value xs)

@@ -10,10 +10,6 @@ pub on_ok : {T E : Type 0} (r : Result T E) (P Q : Type 0) → OnOk r P → (P �
 on_ok (Ok t) P Q p k = k p
 on_ok (Err e) P Q p k = tt
 
-pub if_ok : {T E : Type 0} (r : Result T E) (P Q : T → Type 0) → IfOk r P → ((t : T) → P t → Q t) → IfOk r Q
-if_ok (Ok t) P Q p k = k t p
-if_ok (Err e) P Q p k = tt
-
 pub if_on : {T E : Type 0} (r : Result T E) (P : T → Type 0) (Q : Type 0) → IfOk r P → ((t : T) → P t → Q) → OnOk r Q
 if_on (Ok t) P Q p k = k t p
 if_on (Err e) P Q p k = tt

@@ -2,7 +2,7 @@
 use Rattle.std.proofs.Common.{◌≡◌, ◌≢◌, ◌⊎◌, inl, inr, ℕ, zero, suc, ◌+◌, ◌≤◌, ◌<◌, ◌==◌, Bool, true, false, List, [], ◌∷◌, ◌++◌, length, map, max, replicate, Option, Some, None, IfSome, refl, sym, ◌∙◌, ap, subst, arith, unwrap_or}
 use Rattle.std.specs.Prelude.{◌&&◌, nat_le, nat_lt, if◌then◌else◌}
 use Rattle.std.specs.FinMap as globals
-use Rattle.std.specs.List.{AllByRecursion, filter_map, flat_map, enumerate_from}
+use Rattle.std.specs.List.{AllByRecursion, filter_map, enumerate_from}
 use Rattle.std.proofs.lemmas.Bool.{cases_eq}
 use Rattle.std.proofs.lemmas.Bool.Decides.{nat_tests}
 use Rattle.std.proofs.lemmas.List.{length-replicate}
@@ -15,7 +15,6 @@ use Rattle.disk_defs.proofs.Told.{weaker_told, both_weak, told_at}
 use Rattle.disk_defs.proofs.Moments.{weaker, then_more, holds_now}
 use Rattle.global_defs.specs.Entry.{Sequence, Globals}
 use Rattle.global_defs.specs.Key.{Key, key_cmp}
-use Rattle.global_defs.specs.Encoded.{encoded}
 use Rattle.global_defs.proofs.Order.{key_total, key_same}
 use Rattle.global_defs.specs.Valid.{is_name}
 use Rattle.global_defs.specs.Pattern.{is_pattern, ends_in_star, stem}
@@ -26,10 +25,9 @@ use Rattle.journal_defs.specs.Directory.{Pattern, pattern_in, patterns, region_o
 use Rattle.journal_defs.specs.Broken.{broken, broken_text, parts_past}
 use Rattle.journal_defs.specs.Sequence.{Placed, Records}
 use Rattle.journal_defs.specs.Epochs.{Blocks, beginning, image_state, block_of}
-use Rattle.journal_defs.specs.Leaves.{cells_of}
 use Rattle.journal_defs.specs.Sound.{AreWhole, Restores, region_state}
 use Rattle.journal_defs.specs.Clean.{AreClean}
-use Rattle.journal_defs.specs.Fit.{IsSoundImage, HasFewNodes}
+use Rattle.journal_defs.specs.Fit.{IsSoundImage}
 use Rattle.journal_defs.specs.Stands.{IsInstance, IsJournal}
 use Rattle.journal_laws.proofs.Naming as naming
 use Rattle.journal_laws.proofs.Runs as runs
@@ -38,9 +36,14 @@ use Rattle.site_defs.specs.Opening.{with_pattern}
 use Rattle.site_defs.specs.Stands.{IsBlank, IsSite, Stands, start_in, epoch_in, texts_of, losts_of}
 use Rattle.site_store.specs.Opening.{EachStands}
 use Rattle.site_making.specs.Mapping.{MayHavePattern}
-use Rattle.site_store.proofs.Found.{instance_one, site_instance, some_made, blank_instance}
+use Rattle.site_store.proofs.Found.{site_instance, some_made, blank_instance}
+use Rattle.block_laws.proofs.Unbroken.{flat_none}
+use Rattle.entry_index.proofs.Thinning.{all_more as one_more}
+use Rattle.site_files.proofs.Keeping.{no_bytes}
+use Rattle.journal_laws.proofs.NewDisks.{few_nodes, no_cells}
+use Rattle.site_files.proofs.WhatIsRead.{instance_one}
 
-both_true : (a b : Bool) → a && b ≡ true → (a ≡ true) × (b ≡ true)
+pub both_true : (a b : Bool) → a && b ≡ true → (a ≡ true) × (b ≡ true)
 both_true true b h = (refl, h)
 both_true false b h = absurd (cc h)
 
@@ -68,17 +71,8 @@ no_losts : (files : Files) (g : ℕ) → g ≡ 0 → losts_of files g ≡ []
 no_losts files zero none = refl
 no_losts files (suc g) none = absurd (omega (arith, none))
 
--- no text is broken where there is no journal
-flat_none : {X Y : Type 0} (f : X → List Y) (xs : List X) → ((x : X) → f x ≡ []) → flat_map f xs ≡ []
-flat_none f [] none = refl
-flat_none f (x ∷ xs) none = rw (none x) (flat_none f xs none)
-
 none_broken : (rs : List InstanceRecord) → broken (without_journals rs) 0 ≡ []
 none_broken rs = flat_none (λ (r : ℕ × NamedMode). map (λ p. record { region = r.1.name; part = p }) (parts_past rs 0 [])) (enumerate_from 0 (regions rs)) (λ r. refl)
-
-no_bytes : (bytes : List ℕ) → length bytes ≤ 0 → bytes ≡ []
-no_bytes [] none = refl
-no_bytes (b ∷ bytes) none = absurd (omega (arith, none))
 
 -- the files of the generations, none of which was drawn
 pub record AreUndrawn (m : ℕ) (files : Files) : Type 0 where
@@ -93,11 +87,6 @@ undrawn_same m a b same are = record {
   texts = λ g low most. same (broken_file g) (λ e. omega (arith, e)) ∙ are.texts g low most;
 }
 
--- before any entry
-few_nodes : HasFewNodes []
-few_nodes zero = let none = globals.len-empty key_cmp (List ℕ) in omega (arith, none)
-few_nodes (suc k) = let none = globals.len-empty key_cmp (List ℕ) in omega (arith, none)
-
 abbrev none_at_all : Globals
 none_at_all = globals.empty
 
@@ -108,13 +97,6 @@ nothing_kept keep = globals.same_map key_total key_same (globals.retain_keys glo
     same k =
         globals.get-retain_keys none_at_all keep k (λ x e. ap keep (sym (key_same k x e)))
         ∙ elim (keep k) as (λ b. (if b then globals.get none_at_all k else None) ≡ globals.get none_at_all k) [ true ↦ refl | false ↦ sym (globals.get-empty key_cmp k) ]
-
-no_elements : {X : Type 0} (xs : List X) → length xs ≡ 0 → [] ≡ xs
-no_elements [] none = refl
-no_elements (x ∷ xs) none = absurd (omega arith)
-
-no_cells : (g : Globals) → globals.len g ≡ 0 → [] ≡ cells_of g
-no_cells g none = ap (λ (es : List (Key × List ℕ)). map (λ e. (encoded e.0, e.1)) es) (no_elements (globals.entries g) (sym (globals.len-entries g) ∙ none))
 
 -- block 0 alone, and it's whole
 one_block : (blocks : Blocks) → AreWhole (image_state (beginning []) blocks)
@@ -240,10 +222,6 @@ generation_more (Reigned r ∷ rs) region star name = generation_more rs region 
 generation_more (Cut n g ∷ rs) region star name = ap (max g) (generation_more rs region star name)
 generation_more (Map r s n ∷ rs) region star name = generation_more rs region star name
 generation_more (Mode r before ∷ rs) region star name = generation_more rs region star name
-
-one_more : {X : Type 0} (P : X → Type 0) (xs : List X) (x : X) → AllByRecursion P xs → P x → AllByRecursion P (xs ++ x ∷ [])
-one_more P [] x all here = (here, tt)
-one_more P (y ∷ xs) x all here = (all.0, one_more P xs x all.1 here)
 
 module _ (rs : List InstanceRecord) (region : ℕ) (text : List ℕ) (inside : region < length (regions rs)) (undrawn : generation rs ≡ 0) where
   abbrev pub more : List InstanceRecord

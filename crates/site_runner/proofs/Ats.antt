@@ -10,7 +10,7 @@ use Rattle.site_store.specs.declared.site.Site as store
 use Rattle.site_store.specs.Owning.{GoesOn, IsOpenSite, disk_of, memory_of}
 use Rattle.journal_defs.specs.Numbers.{INSTANCE}
 use Rattle.journal_defs.specs.Instance.{generation}
-use Rattle.site_store.proofs.Found.{instance_one, site_instance, blank_instance, site_made}
+use Rattle.site_store.proofs.Found.{site_instance, blank_instance, site_made}
 use Rattle.site_defs.specs.Lists.{Among}
 use Rattle.world_defs.specs.World as world
 use Rattle.command_defs.specs.Commands.{Name}
@@ -32,6 +32,8 @@ use Rattle.site_runner.specs.Causes.{cause_value}
 use Rattle.site_runner.specs.Sites.{state_value, site_value, State, Down, Failed, Site}
 use Rattle.site_runner.specs.Executes.{Comes}
 use Rattle.site_runner.specs.Steps.{IsAt, ExecutesAt}
+use Rattle.site_store.proofs.Unwritten.{some_and_read as some_and}
+use Rattle.site_files.proofs.WhatIsRead.{instance_one}
 
 -- what is known of what lies behind stays
 pub stand_same : (x : Option (List Standing)) → StandAsBefore x x
@@ -64,10 +66,6 @@ shown_same (Some f) o n e h = e ∙ h
 pub by_shown : (x o : Option Files) (P : Files → Type 0) → IfSome x (λ f. o ≡ Some f) → IfSome o P → IfSome x P
 by_shown None o P e h = tt
 by_shown (Some f) o P e h = subst (λ (y : Option Files). IfSome y P) e h
-
-pub if_some : (o : Option Files) (P Q : Files → Type 0) → ((f : Files) → P f → Q f) → IfSome o P → IfSome o Q
-if_some None P Q f h = tt
-if_some (Some x) P Q f h = f x h
 
 -- a call that writes nothing where the disk tells its files shows the same
 pub shown_unwritten : (x o n : Option Files) → IfSome o (λ _. n ≡ o) → IfSome x (λ f. o ≡ Some f) → IfSome x (λ f. n ≡ Some f)
@@ -145,10 +143,6 @@ pub on_failed : {E : Type 0} (r : Result Ended E) (k : ℕ) (T : Type 0) (P : En
 on_failed (Ok ended) k T P h f = subst P (sym h.0) (f h.1)
 on_failed (Err e) k T P h f = h
 
-pub on_done : {T E : Type 0} (r : Result T E) (P Q : T → Type 0) → IfOk r P → ((x : T) → P x → Q x) → IfOk r Q
-on_done (Ok x) P Q h f = f x h
-on_done (Err e) P Q h f = h
-
 -- a refusal that names and states decide, by the code's cause
 pub refuses_by : {E : Type 0} (row : Place → Row) (v : View) (s : Site) (cause : code.Cause) (before now name : List ℕ) (r : Result Ended E) (after : Ended → Site) → after ends.Undone ≡ s
     → ((p : Place) → IsAt v s p → (row p).early ≡ refused_with s.name (Some (cause_value cause))) → ((p : Place) → (row p).refused (record { site = s.name; cause = cause_value cause }) p)
@@ -170,10 +164,6 @@ second_cause a b more c e f = rw (e, f) refl
 pub no_cause : (a b : Option Cause) → a ≡ None → b ≡ None → first (a ∷ b ∷ []) ≡ None
 no_cause a b e f = rw (e, f) refl
 
-pub not_true : (b : Bool) → (b ≡ true → ⊥) → b ≡ false
-not_true true f = absurd (f refl)
-not_true false f = refl
-
 pub is_true_or_false : (b : Bool) → (b ≡ true) ⊎ (b ≡ false)
 is_true_or_false true = inl refl
 is_true_or_false false = inr refl
@@ -193,10 +183,6 @@ some_both (Some f) P Q h k = (f, h, k)
 pub some_of : (o : Option Files) (P : Type 0) → IsSome o → IfSome o (λ _. P) → P
 some_of None P h k = cc
 some_of (Some f) P h k = k
-
-pub some_and : (o : Option Files) (P Q : Files → Type 0) → ((f : Files) → P f → Q f) → IsSomeAnd o P → IsSomeAnd o Q
-some_and None P Q f h = absurd h
-some_and (Some x) P Q f h = f x h
 
 -- files that stand for a site that was made are a site's
 pub is_site : (files : Files) (c : Contents) → is_made c ≡ true → Stands files c → IsSite files c

@@ -28,13 +28,15 @@ use Rattle.site_runner.specs.Tied.{IsPlace, Tied}
 use Rattle.site_runner.specs.Executes.{Comes, ExecutesHere, Executes, IsCutOff}
 use Rattle.site_runner.specs.Looking.{fits, IsFoundBy, Finds, LooksHere, Tells}
 use Rattle.site_runner.specs.Attaching.{Takes, AttachesHere}
-use Rattle.site_runner.proofs.Ats.{if_some, any_shown, is_true_or_false, comes_done, comes_refused, comes_may_refuse, comes_fault, comes_damaged, images_of, standings_of, up_free}
+use Rattle.site_runner.proofs.Ats.{any_shown, is_true_or_false, comes_done, comes_refused, comes_may_refuse, comes_fault, comes_damaged, images_of, standings_of, up_free}
 use Rattle.site_runner.proofs.Stopped.{names_same}
 use Rattle.site_runner.proofs.Lifts.{means_there, means_none, place_of_slot, ActsBy, lifted, lifted_cut, refused_anywhere, cut_there, cut_no, cut_acts, cut_nothing}
 use Rattle.site_runner.proofs.Looked.{looked_cut}
 use Rattle.site_runner.proofs.Next.{next_of_slot}
-use Rattle.site_runner.proofs.Results.{on_ok, err_so}
 use Rattle.world_defs.specs.Ties.{Matches}
+use Rattle.site_store.proofs.Unwritten.{some_read as if_some}
+use Rattle.repl_section.proofs.Results.{on_ok}
+use Rattle.site_runner.proofs.Results.{err_holds as err_so}
 
 -- at the next disk's place, in the world before it
 attach_acts : {D : Type 0} (view : D → View) (slots : List (Slot D)) (i : ℕ) → first_where is_slot_free (take 8 slots) ≡ Some i → ActsBy view Attach attach slots i

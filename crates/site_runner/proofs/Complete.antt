@@ -1,7 +1,6 @@
 -- Which status a run ends with where nothing fails.
-use Rattle.std.proofs.Common.{◌≡◌, ℕ, ◌≤◌, List, [], length, None, Some, refl, ap, ◌∙◌, subst, inl, inr, arith}
+use Rattle.std.proofs.Common.{◌≡◌, ℕ, List, [], None, Some, refl, ap, ◌∙◌, subst, inl, inr, arith}
 use Rattle.std.specs.Prelude.{Option, IfSome, ◌⊎◌}
-use Rattle.std.specs.Io.KnownBytes.{Consumes}
 use Rattle.std.proofs.KnownBytes.{Appends-nil}
 use Rattle.command_defs.specs.Lines.{lines_of}
 use Rattle.command_defs.specs.Script.{Outside, IsScript, IsBadAt}
@@ -104,7 +103,3 @@ not_begun w o out P h =
       },
       stays NoMemory w,
     )
-
-pub nothing_read : (o : Option (List ℕ)) → (bytes : List ℕ) × Consumes o o bytes × (length bytes ≤ 409700001)
-nothing_read None = ([], tt, omega arith)
-nothing_read (Some u) = ([], refl, omega arith)

@@ -33,7 +33,8 @@ use Rattle.site_runner.specs.Steps.{IsAt, ExecutesAt, in_state}
 use Rattle.site_runner.proofs.Results.{ok_so, on_errs}
 use Rattle.site_runner.proofs.Stopped.{leaves_at, cut_unless, cut_nowhere}
 use Rattle.site_runner.proofs.Fused.{state_read}
-use Rattle.site_runner.proofs.Ats.{comes_done, not_early, on_done, refuses_by, state_at, second_cause, no_cause, is_true_or_false, Leftovers, reads_stand, only, files_of, kept_same, as_told, shown_same, StandForOne, standing_read, at_image_by, so_of, stands_for, stands_so_for, stands_by, stands_so_by, still_by}
+use Rattle.site_runner.proofs.Ats.{comes_done, not_early, refuses_by, state_at, second_cause, no_cause, is_true_or_false, Leftovers, reads_stand, only, files_of, kept_same, as_told, shown_same, StandForOne, standing_read, at_image_by, so_of, stands_for, stands_so_for, stands_by, stands_so_by, still_by}
+use Rattle.repl_section.proofs.Results.{if_ok as on_done}
 
 simulated_at : (v : View) (s : Site) (p : Place) (b : Bool) → IsAt v s p → b ≡ v.simulated → not_simulated p.simulated ≡ not_simulated b
 simulated_at v s p b h e = ap not_simulated (sym h.disk.simulated ∙ sym e)

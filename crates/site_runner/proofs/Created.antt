@@ -33,7 +33,7 @@ use Rattle.world_defs.specs.Ties.{Matches}
 use Rattle.site_defs.specs.Stands.{IsBlank, IsSite, Stands, Reads}
 use Rattle.site_defs.specs.Behind.{StandsSo}
 use Rattle.journal_defs.specs.Numbers.{INSTANCE}
-use Rattle.site_store.proofs.Found.{instance_one, site_instance, blank_instance, site_made}
+use Rattle.site_store.proofs.Found.{site_instance, blank_instance, site_made}
 use Rattle.site_runner.specs.declared.slot.Slot.{Slot}
 use Rattle.site_runner.specs.Sites.{IsOf, Down, disk_in}
 use Rattle.site_runner.specs.Tied.{IsPlace}
@@ -45,14 +45,16 @@ use Rattle.site_runner.specs.declared.ending.Ended.{Ended}
 use Rattle.site_runner.specs.declared.ending.Ended.TheVariants as ends
 use Rattle.site_runner.specs.declared.ending.Ended.TheVariants.{Undone}
 use Rattle.site_runner.specs.Ending.{is_done_at}
-use Rattle.site_runner.proofs.Ats.{on_not_done, comes_done, comes_refused, comes_may_refuse, comes_fault, comes_damaged, some_outcome, is_true_or_false, some_both, some_of, some_and, told_is, stands_told, at_moment, Leftovers, ReadPlace, place_of_images, place_of_one, only}
-use Rattle.site_runner.proofs.Ats.{images_of, standings_of, up_free, some_standing, stand_more, stand_earlier, left_new, by_shown, if_some, ImagesStand}
+use Rattle.site_runner.proofs.Ats.{on_not_done, comes_done, comes_refused, comes_may_refuse, comes_fault, comes_damaged, some_outcome, is_true_or_false, some_both, some_of, told_is, stands_told, at_moment, Leftovers, ReadPlace, place_of_images, place_of_one, only}
+use Rattle.site_runner.proofs.Ats.{images_of, standings_of, up_free, some_standing, stand_more, stand_earlier, left_new, by_shown, ImagesStand}
 use Rattle.site_runner.proofs.Looked.{some_and_of, looked_cut}
 use Rattle.site_runner.proofs.Stopped.{leaves}
-use Rattle.site_runner.proofs.Results.{err_so, on_written}
+use Rattle.site_runner.proofs.Results.{on_written, err_holds as err_so}
 use Rattle.site_runner.specs.declared.slot.Slot.TheVariants.{Free}
 use Rattle.site_runner.specs.declared.slot.Slot.TheVariants as slots
 use Rattle.world_defs.specs.Step.{LeftByRow}
+use Rattle.site_files.proofs.WhatIsRead.{instance_one}
+use Rattle.site_store.proofs.Unwritten.{some_and_read as some_and, some_read as if_some}
 
 -- the regions of a command
 

@@ -18,8 +18,9 @@ use Rattle.site_runner.specs.Ending.{is_done_at, primary}
 use Rattle.site_runner.specs.Executes.{Leaves}
 use Rattle.site_runner.specs.Sites.{Site, Primary, disk_in, site_in}
 use Rattle.site_runner.specs.Steps.{ExecutesAt, IsCutAt, state_text}
-use Rattle.site_runner.proofs.Results.{on_ok, err_holds}
+use Rattle.site_runner.proofs.Results.{err_holds}
 use Rattle.site_runner.proofs.Stopped.{executes_here, cut_here, cut_same, shows_at}
+use Rattle.repl_section.proofs.Results.{on_ok}
 
 -- what a command left of its slot, by the line that was written behind it
 pub written_leaves : {D T E : Type 0} (view : D → View) (row : Name → Place → Row) (old new : Slot D) (site after : Site) (w : View) (written : Result T E) (r : Result Ended NoMemory) (ended : Ended) (before now : List ℕ) → site_in old ≡ Some site → view (disk_in new) ≡ w → site_in new ≡ Some after

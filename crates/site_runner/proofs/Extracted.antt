@@ -13,14 +13,15 @@ use Rattle.world_defs.specs.Answers.{Refusal, line, damage_line}
 use Rattle.world_defs.specs.Row.{or_else}
 use Rattle.world_defs.specs.rows.Extract.{Extracts, extract}
 use Rattle.site_runner.specs.Steps.{IsAt, ExecutesAt}
-use Rattle.site_runner.proofs.Ats.{comes_typed, comes_damaged, not_true, is_true_or_false}
+use Rattle.site_runner.proofs.Ats.{comes_typed, comes_damaged, is_true_or_false}
 use Rattle.site_runner.proofs.Remembered.{entries_count}
 use Rattle.site_runner.proofs.Seen.{counted, kept_counted, read_at, read_faulted}
 use Rattle.site_runner.proofs.Stopped.{reigns_at, open_at_place}
 use Rattle.site_runner.specs.Sites.{Primary, Failed, Site, Reign}
+use Rattle.gvn_globals.proofs.Basics.{false_of as not_true}
 
 -- a place whose files are known is that of the site that is open
-known_open : (v : View) (s : Site) (r : Reign) (p : Place) → s.state ≡ Primary r → IsAt v s p → p.told ≡ true → IsOpen v true p.now (length p.now.sequence) r.site
+pub known_open : (v : View) (s : Site) (r : Reign) (p : Place) → s.state ≡ Primary r → IsAt v s p → p.told ≡ true → IsOpen v true p.now (length p.now.sequence) r.site
 known_open v s r p e h sure = subst (λ (b : Bool). IsOpen v b p.now (length p.now.sequence) r.site) sure (reigns_at v s r p e h)
 
 -- the lines that were read are those of the site's entries where its files are known, and else of as many

@@ -31,9 +31,11 @@ use Rattle.site_runner.specs.Sites.{IsOf, Site}
 use Rattle.site_runner.specs.Mapping.{IsSeenAt, IsUnmappedIn, MapsAt}
 use Rattle.site_runner.proofs.Looked.{same_self}
 use Rattle.site_runner.proofs.Stopped.{names_same}
-use Rattle.site_runner.proofs.Ats.{some_both, reads_stand, if_some}
+use Rattle.site_runner.proofs.Ats.{some_both, reads_stand}
 use Rattle.site_runner.proofs.Patterns.{by_started, by_no_region, by_twice, by_nothing, refused_started, refused_no_region, refused_twice}
 use Rattle.site_runner.proofs.Mapped.{map_refused}
+use Rattle.site_making.proofs.Mapped.{plain as of_records}
+use Rattle.site_store.proofs.Unwritten.{some_read as if_some}
 
 -- what was found on a disk that has these files
 abbrev pub FoundIn : Option Files → Option Layout → Type 0
@@ -118,10 +120,6 @@ free_in None region number text found h none inside e once = h
 free_in (Some f) region number text found h none inside e once = λ c site. free_found region number text found none inside e once c (h c (inr site)).1
 
 -- The refusals. The records of the instance file are what was found, on a disk that tells its bytes.
-
--- contents with these records
-abbrev of_records : List InstanceRecord → Contents
-of_records rs = record { instance = rs; starts = λ r. []; epochs = λ r. []; texts = []; losts = []; sequence = [] }
 
 refused_by : (w : View) (region : Name) (text : List ℕ) (name : Name) (rs : List InstanceRecord) (cause : Cause) → IfSome w.content (λ files. IsInstance (files INSTANCE) rs) → site_name rs ≡ name → unmapped_by region text rs ≡ Some cause
     → IfSome w.content (UnmappedBy region text name cause)

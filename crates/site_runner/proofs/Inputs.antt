@@ -12,9 +12,9 @@ use Rattle.command_defs.specs.Script.{Position, IsBadAt}
 use Rattle.site_runner.specs.Ends.{ComeTo, IsInput}
 use Rattle.line_reader.specs.Lines.{IsPiece}
 use Rattle.site_runner.proofs.Told.{consumes_then}
-use Rattle.site_runner.proofs.Cuts.{split_and, split_or}
 use Rattle.site_runner.proofs.LineLaws.{is_clean, last_line, first_line, lines_ended}
 use Rattle.site_runner.proofs.Readings.{bad_here, long_line}
+use Rattle.jnl_extract.proofs.Cuts.{split_and, split_or}
 
 pub if_some : {A : Type 0} (o : Option A) (P Q : A → Type 0) → ((x : A) → P x → Q x) → IfSome o P → IfSome o Q
 if_some None P Q f h = tt

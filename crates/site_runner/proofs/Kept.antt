@@ -15,6 +15,8 @@ use Rattle.site_defs.specs.Contents.{Contents, Standing, bare}
 use Rattle.site_defs.specs.Fronts.{with_sequence}
 use Rattle.site_defs.specs.Behind.{parts_of_each, parts_in, text_left, AreKept, IsFrontLeft, MayStand}
 use Rattle.site_runner.proofs.Amongs.{among_first, among_second, among_either, among_map, among_flat, flat_among}
+use Rattle.site_store.proofs.Parts.{named}
+use Rattle.site_making.proofs.Mapped.{both_true as both}
 
 -- all numbers up to one, and all lists of so many of them
 abbrev up_to : ℕ → List ℕ
@@ -74,10 +76,6 @@ take_min k m xs few = elim (cases_lt k m) [
       ap (λ (n : ℕ). take n xs) same ∙ take_all m xs few ∙ sym (take_all k xs (omega (arith, few, more)))
 ]
 
--- so its text is the same by the least of both
-abbrev named : (ℕ → List Part) → ℕ × NamedMode → List BrokenPart
-named f r = map (λ (p : Part). record { region = r.1.name; part = p }) (f r.0)
-
 flat_same : (f g : ℕ → List Part) (i : ℕ) (rs : List NamedMode) → ((r : ℕ) → r < i + length rs → f r ≡ g r) → flat_map (named f) (enumerate_from i rs) ≡ flat_map (named g) (enumerate_from i rs)
 flat_same f g i [] same = refl
 flat_same f g i (x ∷ rs) same =
@@ -114,10 +112,6 @@ same_text c all low kept len = ap (broken_text (site_name c.instance) len) (flat
 abbrev all_kept : ℕ → List (ℕ → Option Part) → (ℕ → ℕ) → Bool
 all_kept zero parts kept = true
 all_kept (suc n) parts kept = nat_le (length (parts_in parts n)) (kept n) && all_kept n parts kept
-
-both : (a b : Bool) → a && b ≡ true → (a ≡ true) × (b ≡ true)
-both true b h = (refl, h)
-both false b h = absurd (cc h)
 
 are_kept : (n : ℕ) (parts : List (ℕ → Option Part)) (kept : ℕ → ℕ) → all_kept n parts kept ≡ true → AreKept n parts kept
 are_kept zero parts kept h r low = absurd (omega (arith, low))

@@ -28,11 +28,12 @@ use Rattle.site_runner.specs.Sites.{state_value, site_value, HoldsState, IsOf, I
 use Rattle.site_runner.specs.Steps.{IsAt}
 use Rattle.site_runner.specs.Refusing.{IsDownAt}
 use Rattle.site_runner.proofs.Amongs.{among_flat, flat_among}
-use Rattle.site_runner.proofs.Ats.{is_true_or_false, told_is, some_and, some_both, reads_site, is_site, standing_of, by_shown, reads_image, at_moment, as_told, shown_same, only, stand_more, Leftovers, StandBy, ImagesStand, images_still, stand_by, stands_by, images_of, standings_of, up_down, place_of_one, stands_with}
+use Rattle.site_runner.proofs.Ats.{is_true_or_false, told_is, some_both, reads_site, is_site, standing_of, by_shown, reads_image, at_moment, as_told, shown_same, only, stand_more, Leftovers, StandBy, ImagesStand, images_still, stand_by, stands_by, images_of, standings_of, up_down, place_of_one, stands_with}
 use Rattle.site_runner.proofs.Seen.{counted}
 use Rattle.site_runner.proofs.Started.{each_stands, stand_one}
 use Rattle.site_store.specs.Needing.{NoneNeeds}
 use Rattle.site_store.specs.Opening.{EachStands}
+use Rattle.site_store.proofs.Unwritten.{some_and_read as some_and}
 
 -- Steps whose ends are covered by finitely many.
 

@@ -1,4 +1,3 @@
-pub mod Cuts
 pub mod Told
 pub mod Turned
 pub mod Moved

@@ -2,7 +2,7 @@
 use Rattle.std.proofs.Common.{◌≡◌, ℕ, ◌==◌, Bool, true, false, not, List, [], ◌∷◌, ◌++◌, length, refl, ap, ◌∙◌, ◌<◌, arith}
 use Rattle.std.specs.List.{list_all, list_any}
 use Rattle.command_defs.specs.Lines.{lines_of, ended}
-use Rattle.site_runner.proofs.Cuts.{split_or, split_and}
+use Rattle.jnl_extract.proofs.Cuts.{split_or, split_and}
 
 -- no line feed
 abbrev pub is_clean : List ℕ → Bool

@@ -22,8 +22,9 @@ use Rattle.site_runner.specs.declared.slot.Slot.{Slot}
 use Rattle.site_runner.specs.Tied.{IsPlace}
 use Rattle.site_runner.specs.Executes.{IsCutHere}
 use Rattle.site_runner.specs.Looking.{fits, IsFoundBy, LeavesOld, Sees, LooksHere}
-use Rattle.site_runner.proofs.Ats.{not_true, told_is, some_both, some_of, stands_told, at_moment, Leftovers, place_of_images, stand_same, left_old, ImagesStand, images_still, images_of, standings_of, stands_by, stand_by, up_free, shown_same, by_shown}
+use Rattle.site_runner.proofs.Ats.{told_is, some_both, some_of, stands_told, at_moment, Leftovers, place_of_images, stand_same, left_old, ImagesStand, images_still, images_of, standings_of, stands_by, stand_by, up_free, shown_same, by_shown}
 use Rattle.site_runner.specs.declared.slot.Slot.TheVariants.{Free}
+use Rattle.gvn_globals.proofs.Basics.{false_of as not_true}
 
 pub same_self : (a : Name) → same_name a a ≡ true
 same_self [] = refl

@@ -28,12 +28,15 @@ use Rattle.site_runner.specs.Sites.{state_value, site_value, HoldsState, IsOf, I
 use Rattle.site_runner.specs.Executes.{Comes}
 use Rattle.site_runner.specs.Steps.{IsAt, ExecutesAt, IsCutAt}
 use Rattle.site_runner.specs.Mapping.{IsSeenAt, IsUnmappedIn, MapsAt, IsCutSeen}
-use Rattle.site_runner.proofs.Ats.{comes_done, comes_refused, comes_may_refuse, comes_fault, comes_damaged, refused_late, none_refused, not_true, is_true_or_false, some_both, some_of, some_and, told_is, reads_stand, reads_site, at_moment, Leftovers, ReadPlace, place_of_images, only}
-use Rattle.site_runner.proofs.Ats.{stands_by, stands_so_by, stand_by, up_down, images_of, standings_of, left_new, so_stands, ImagesStand, images_still, as_told, shown_same, by_shown, if_some}
+use Rattle.site_runner.proofs.Ats.{comes_done, comes_refused, comes_may_refuse, comes_fault, comes_damaged, refused_late, none_refused, is_true_or_false, some_both, some_of, told_is, reads_stand, reads_site, at_moment, Leftovers, ReadPlace, place_of_images, only}
+use Rattle.site_runner.proofs.Ats.{stands_by, stands_so_by, stand_by, up_down, images_of, standings_of, left_new, so_stands, ImagesStand, images_still, as_told, shown_same, by_shown}
 use Rattle.site_runner.proofs.Seen.{counted, kept_counted}
 use Rattle.site_runner.proofs.Amongs.{among_first, among_second, among_either}
 use Rattle.site_runner.proofs.Started.{why_at}
 use Rattle.site_runner.proofs.Patterns.{maps, among_maps, maps_among, of_pattern, of_may_map, generation_map, unmapped_unknown, not_refused}
+use Rattle.site_runner.proofs.Looked.{some_and_of}
+use Rattle.gvn_globals.proofs.Basics.{false_of as not_true}
+use Rattle.site_store.proofs.Unwritten.{some_and_read as some_and, some_read as if_some}
 
 -- the tests of a site that is down
 
@@ -405,10 +408,6 @@ done_at region number text w s before now p read down site as_before named free 
       held = record { made = λ sure. record { now = of_d sure; outcomes = λ o a. subst (IsOf s.name) (sym (only o d a)) (of_d sure) }; state = subst (λ (x : State). HoldsState w x q) (sym down) tt };
     })
     t
-
-pub some_and_of : (o : Option Files) (P : Files → Type 0) → IsSome o → IfSome o P → IsSomeAnd o P
-some_and_of None P h k = cc
-some_and_of (Some f) P h k = k
 
 -- files that stand for a site without a generation have nothing behind it
 unbegun_reads : (leftovers : Leftovers) (number : ℕ) (text : List ℕ) (c : Contents) (f : Files) → generation c.instance ≡ 0 → IsSite f (with_pattern number text c) → Reads f (with_pattern number text c) NO_LEFTOVER

@@ -40,6 +40,7 @@ use Rattle.site_runner.proofs.Amongs.{among_map, map_among, among_flat}
 use Rattle.site_runner.proofs.Ats.{comes_done, comes_fault, at_moment, some_outcome, told_is, reads_image, Leftovers, NothingIsLeft, ReadPlace, place_of_images, place_of_one, only, open_site, open_reads, open_images, stands_with}
 use Rattle.site_runner.proofs.Remembered.{entries_count}
 use Rattle.site_runner.proofs.Stopped.{open_at, reigns_at, open_at_place}
+use Rattle.site_runner.proofs.Extracted.{known_open}
 
 -- The regions in which an epoch was taken: each choice of them among the first n.
 
@@ -125,10 +126,6 @@ pub record Moments (v w : View) (o : Memory) : Type 1 where
   pub still_told : IsSome v.content → IsSome w.content
   pub simulated : w.simulated ≡ v.simulated
   pub later : v.faults ≤ w.faults
-
--- the site was open, with nothing but what its files read as
-known_open : (v : View) (s : Site) (r : Reign) (p : Place) → s.state ≡ Primary r → IsAt v s p → p.told ≡ true → IsOpen v true p.now (length p.now.sequence) r.site
-known_open v s r p e h sure = subst (λ (b : Bool). IsOpen v b p.now (length p.now.sequence) r.site) sure (reigns_at v s r p e h)
 
 -- each image stands for what taking an epoch may leave
 marked_place : (leftovers : Leftovers) (v w : View) (s : Site) (r : Reign) (p : Place) (site : Option world.Site) → s.state ≡ Primary r → Moments v w r.site → IsAt v s p

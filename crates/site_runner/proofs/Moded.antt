@@ -45,13 +45,17 @@ use Rattle.site_runner.specs.Refusing.{IsDownAt}
 use Rattle.site_runner.specs.Setting.{SetsAt, IsCutSet}
 use Rattle.site_runner.specs.Steps.{IsAt, ExecutesAt, IsCutAt}
 use Rattle.site_runner.proofs.Amongs.{among_flat, flat_among}
-use Rattle.site_runner.proofs.Ats.{comes_done, comes_refused, comes_may_refuse, comes_fault, comes_damaged, refused_late, none_refused, not_true, is_true_or_false, some_both, some_and, told_is, is_site, reads_site, at_moment, as_told, by_shown, if_some, stands_by, stand_by, standing_of, ImagesStand, Leftovers}
+use Rattle.site_runner.proofs.Ats.{comes_done, comes_refused, comes_may_refuse, comes_fault, comes_damaged, refused_late, none_refused, is_true_or_false, some_both, told_is, is_site, reads_site, at_moment, as_told, by_shown, stands_by, stand_by, standing_of, ImagesStand, Leftovers}
 use Rattle.site_runner.proofs.Begun.{of_more}
 use Rattle.site_runner.proofs.Found.{FoundIn, layout_at, number_found}
 use Rattle.site_runner.proofs.Leaving.{Ends, EndsSo, ImagesAfter, MayHave, old_ends, old_ends_so, fails_more, left_more, left_cut, left_failed, down_at, still_down, early_none, nothing_had}
-use Rattle.site_runner.proofs.Mapped.{Looked, AreAlike, seen_at, unknown_seen, seen_counted, shown_none, some_and_of}
+use Rattle.site_runner.proofs.Mapped.{Looked, AreAlike, seen_at, unknown_seen, seen_counted, shown_none}
 use Rattle.site_runner.proofs.Seen.{counted, kept_counted}
 use Rattle.site_runner.proofs.Started.{stand_one}
+use Rattle.site_making.proofs.Mapped.{plain as of_records}
+use Rattle.gvn_globals.proofs.Basics.{false_of as not_true}
+use Rattle.site_store.proofs.Unwritten.{some_and_read as some_and, some_read as if_some}
+use Rattle.site_runner.proofs.Looked.{some_and_of}
 
 early_down : (s : Site) (p : Place) → s.state ≡ Down → p.site ≡ Some (site_value s) → refused_with s.name (in_state why_not_down p.site) ≡ None
 early_down s p down site = ap (refused_with s.name) (early_none s p down site)
@@ -198,10 +202,6 @@ unset_told region p n sure e = ap (λ (b : Bool). if b then unset_by region p.no
 
 unset_unknown : (region : Name) (p : Place) → p.told ≡ false → unset region p ≡ None
 unset_unknown region p unsure = ap (λ (b : Bool). if b then unset_by region p.now.instance else None) unsure
-
--- contents with these records
-abbrev of_records : List InstanceRecord → Contents
-of_records rs = record { instance = rs; starts = λ r. []; epochs = λ r. []; texts = []; losts = []; sequence = [] }
 
 pub unset_found : (region : Name) (found : FoundSite) (n : Option ℕ) → HasLayout found.log.records found.layout
     → n ≡ first_where (λ r. same_name r.name region) (map region_value (take found.layout.directory.regions found.layout.regions.items)) → unset_by region found.log.records ≡ no_region_at region n

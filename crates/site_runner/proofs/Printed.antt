@@ -19,8 +19,10 @@ use Rattle.site_runner.specs.declared.ending.Ended.TheVariants as ends
 use Rattle.site_runner.specs.Ending.{is_done_at, ShowsBytes}
 use Rattle.site_runner.specs.Sites.{state_value, Failed, Site}
 use Rattle.site_runner.specs.Steps.{IsAt, ExecutesAt, IsCutAt}
-use Rattle.site_runner.proofs.Ats.{on_not_done, on_done, comes_refused, comes_may_refuse, comes_typed, refused_late, none_refused, state_at, is_true_or_false, some_both, reads_site, by_shown, if_some}
+use Rattle.site_runner.proofs.Ats.{on_not_done, comes_refused, comes_may_refuse, comes_typed, refused_late, none_refused, state_at, is_true_or_false, some_both, reads_site, by_shown}
 use Rattle.site_runner.proofs.Seen.{counted, kept_counted, read_at, read_faulted, read_cut}
+use Rattle.repl_section.proofs.Results.{if_ok as on_done}
+use Rattle.site_store.proofs.Unwritten.{some_read as if_some}
 
 -- The tests of a site that isn't stopped.
 

@@ -28,12 +28,14 @@ use Rattle.site_runner.specs.Steps.{IsAt, ExecutesAt, IsCutAt}
 use Rattle.site_runner.specs.Recovering.{IsHeldFor}
 use Rattle.site_runner.specs.Refusing.{IsDownAt}
 use Rattle.site_runner.proofs.Amongs.{among_first, among_second, among_either, among_map, map_among}
-use Rattle.site_runner.proofs.Ats.{first_cause, no_cause, comes_done, comes_refused, comes_may_refuse, comes_fault, comes_damaged, refused_late, none_refused, not_true, is_true_or_false, some_both, reads_site, is_site, stands_told, if_some, by_shown, shown_unwritten, Leftovers}
+use Rattle.site_runner.proofs.Ats.{first_cause, no_cause, comes_done, comes_refused, comes_may_refuse, comes_fault, comes_damaged, refused_late, none_refused, is_true_or_false, some_both, reads_site, is_site, stands_told, by_shown, shown_unwritten, Leftovers}
 use Rattle.site_runner.proofs.Begun.{begun_up_to, among_begun, any_begun, cut_so_as, of_opened_as, generation_past, generation_left}
 use Rattle.site_runner.proofs.Marked.{marks, among_marks, marks_are, among_left, left_are, of_marked}
 use Rattle.site_runner.proofs.Seen.{counted, kept_counted}
 use Rattle.site_runner.proofs.Started.{each_stands, unknown_at, no_forward, stand_one}
 use Rattle.site_runner.proofs.Leaving.{Ends, EndsSo, left_cut, left_failed, Done, done_at, down_at, still_down, down_counted, early_none, StepsAt, StepsSo, may_have, WasRead, HeldSo, was_read}
+use Rattle.gvn_globals.proofs.Basics.{false_of as not_true}
+use Rattle.site_store.proofs.Unwritten.{some_read as if_some}
 
 -- What an opening and a closing may leave.
 

@@ -20,7 +20,6 @@ use Rattle.site_store.specs.declared.layout.Layout.{Layout}
 use Rattle.site_store.specs.declared.layout.RegionSpec.{RegionSpec}
 use Rattle.site_store.specs.Opening.{region_value}
 use Rattle.site_store.specs.Finding.{HasLayout}
-use Rattle.site_store.proofs.Found.{instance_one}
 use Rattle.world_defs.specs.World as world
 use Rattle.world_defs.specs.World.{Place, IfShown, Kept, StandAfter}
 use Rattle.world_defs.specs.Answers.{NoBefore, NeedForward, Refusal, Refused, NotAFile, line}
@@ -38,12 +37,15 @@ use Rattle.site_runner.specs.declared.refusing.Needing.TheVariants.{Rollback, Op
 use Rattle.site_runner.specs.Executes.{Comes}
 use Rattle.site_runner.specs.Steps.{IsAt, ExecutesAt, IsCutAt}
 use Rattle.site_runner.specs.Refusing.{IsDownAt, Refusable, ToRollBack, ToStart, ToRecover, row_of, target_of, IsAskedBy, IsTold, NeedsForward, cause_of, TellsRegion, RefusesAt, IsCutDown}
-use Rattle.site_runner.proofs.Ats.{second_cause, refused_late, comes_refused, comes_may_refuse, comes_fault, comes_damaged, not_true, is_true_or_false, some_both, reads_site, if_some, by_shown, Leftovers}
+use Rattle.site_runner.proofs.Ats.{second_cause, refused_late, comes_refused, comes_may_refuse, comes_fault, comes_damaged, is_true_or_false, some_both, reads_site, by_shown, Leftovers}
 use Rattle.site_runner.proofs.Begun.{generation_left}
 use Rattle.site_runner.proofs.Seen.{counted, kept_counted}
 use Rattle.site_runner.proofs.Started.{stand_one}
 use Rattle.site_runner.proofs.Leaving.{old_ends, old_ends_so, fails_more, left_more, left_cut, left_failed, down_at, still_down, down_counted, early_none, nothing_had}
 use Rattle.site_runner.specs.Sites.{Down, Failed, Site}
+use Rattle.site_files.proofs.WhatIsRead.{instance_one}
+use Rattle.gvn_globals.proofs.Basics.{false_of as not_true}
+use Rattle.site_store.proofs.Unwritten.{some_read as if_some}
 
 -- the region by its name
 

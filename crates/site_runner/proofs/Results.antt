@@ -4,10 +4,6 @@ use Rattle.std.specs.Prelude.{◌≡◌, Result, Ok, Err, OnOk, OnErr, IfOk, IfE
 use Rattle.site_runner.specs.declared.ending.Ended.{Ended}
 use Rattle.site_runner.specs.declared.ending.Ended.TheVariants.{Undone}
 
-pub on_ok : {T E : Type 0} (r : Result T E) (P Q : Type 0) → OnOk r P → (P → Q) → OnOk r Q
-on_ok (Ok x) P Q h f = f h
-on_ok (Err e) P Q h f = h
-
 pub on_err : {T E : Type 0} (r : Result T E) (P Q : E → Type 0) → IfErr r P → ((e : E) → P e → Q e) → IfErr r Q
 on_err (Ok x) P Q h f = h
 on_err (Err e) P Q h f = f e h
@@ -23,10 +19,6 @@ on_err_of (Err e) P Q h f = f h
 pub on_errs : {T E : Type 0} (r : Result T E) (P Q : Type 0) → OnErr r P → (P → Q) → OnErr r Q
 on_errs (Ok x) P Q h f = h
 on_errs (Err e) P Q h f = f h
-
-pub err_so : {T E : Type 0} (r : Result T E) (P : Type 0) → P → OnErr r P
-err_so (Ok x) P h = tt
-err_so (Err e) P h = h
 
 pub ok_so : {T E : Type 0} (r : Result T E) (P : Type 0) → P → OnOk r P
 ok_so (Ok x) P h = h

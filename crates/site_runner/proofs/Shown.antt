@@ -9,6 +9,7 @@ use Rattle.std.specs.Option.{unwrap_or}
 use Rattle.global_defs.specs.Entry.{Entry, Sequence}
 use Rattle.global_defs.specs.Extract.{entry_text, entries_text, header, extract}
 use Rattle.site_defs.specs.Texts.{extract_from}
+use Rattle.site_store.proofs.Loaded.{quiet_entry as UNSHOWN}
 
 -- an extract written in two steps, into a text of its own
 pub extracts : (name shown_name : List ℕ) (from before : ℕ) (seq : Sequence) (none mid lines : List ℕ) → 0 < from → before ≡ from - 1 → shown_name ≡ name
@@ -109,10 +110,6 @@ some_more before place text mid now from was is =
     let count = was.count in
     let number : place + 1 ≡ before + 1 + length was.entries = omega (arith, from, count) in
     record { entries = was.entries ++ is.0 ∷ []; count = omega (arith, from, count, long); added = lines_more before (place + 1) was.entries is.0 text mid now number was.added is.1 }
-
--- stands for an entry before the first that is shown
-UNSHOWN : Entry
-UNSHOWN = record { stamp = record { root = []; cycle = 0 }; transaction = record { origin = record { updater = 0; serial = 0 }; updates = [] } }
 
 no_entry : (es : Sequence) → length es ≡ 0 → es ≡ []
 no_entry [] e = refl

@@ -52,11 +52,13 @@ use Rattle.site_runner.proofs.Stopped.{placed, slot_at}
 use Rattle.site_runner.specs.Steps.{IsAt, ExecutesAt, IsCutAt}
 use Rattle.site_store.specs.declared.error.SiteError.{SiteError}
 use Rattle.site_runner.specs.Starting.{IsOpenedAt, BeginsAt, FailsToOpen}
-use Rattle.site_runner.proofs.Ats.{comes_done, comes_so, comes_refused, comes_may_refuse, comes_fault, comes_damaged, refused_late, none_refused, not_true, is_true_or_false, some_both, told_is, is_site, reads_site, stands_told, at_moment, reads_image, Leftovers, NothingIsLeft, ReadPlace, place_of_images, place_of_one, only, open_reads, open_images}
-use Rattle.site_runner.proofs.Ats.{left_new, as_told, shown_same, shown_unwritten, by_shown, if_some, stand_same, StandForOne, ImagesStand, standing_there, at_image, standing_of, stands_with, stands_for, still_by, up_down, images_of, standings_of}
+use Rattle.site_runner.proofs.Ats.{comes_done, comes_so, comes_refused, comes_may_refuse, comes_fault, comes_damaged, refused_late, none_refused, is_true_or_false, some_both, told_is, is_site, reads_site, stands_told, at_moment, reads_image, Leftovers, NothingIsLeft, ReadPlace, place_of_images, place_of_one, only, open_reads, open_images}
+use Rattle.site_runner.proofs.Ats.{left_new, as_told, shown_same, shown_unwritten, by_shown, stand_same, StandForOne, ImagesStand, standing_there, at_image, standing_of, stands_with, stands_for, still_by, up_down, images_of, standings_of}
 use Rattle.site_runner.proofs.Seen.{counted, kept_counted}
 use Rattle.site_runner.proofs.Remembered.{entries_count}
 use Rattle.site_runner.proofs.Begun.{limit_opened, stamp_opened, of_opened, of_begun, of_may_begin, begins, among_begins, begins_among, begins_so, begins_so_among, begun_so, generation_past, generation_left}
+use Rattle.gvn_globals.proofs.Basics.{false_of as not_true}
+use Rattle.site_store.proofs.Unwritten.{some_read as if_some}
 
 -- Whatever place the site was opened at, START with some answer leads from there to one at which it stands, and this is its text.
 abbrev pub Begins : View → Memory → Site → View → Site → List ℕ → List ℕ → Bool → Type 0

@@ -32,7 +32,6 @@ use Rattle.site_runner.specs.Tied.{IsPlace}
 use Rattle.site_runner.proofs.Results.{on_errs, err_holds}
 use Rattle.site_runner.proofs.Remembered.{entries_count}
 use Rattle.site_runner.specs.Steps.{state_text, IsAt, ExecutesAt, IsCutAt}
-use Rattle.site_runner.proofs.Cuts.{split_and}
 use Rattle.site_runner.proofs.Ats.{stand_same, left_old, comes_done, comes_so, state_at, kept_same}
 use Rattle.site_store.specs.Site.{count_of}
 use Rattle.site_runner.specs.Ending.{is_done_at, down, down_after, primary, primary_after}
@@ -41,6 +40,7 @@ use Rattle.repl_section.specs.declared.reign.Reign as code
 use Rattle.site_store.specs.Owning.{disk_of}
 use Rattle.site_runner.specs.declared.ending.Ended.{Ended}
 use Rattle.gvn_key.specs.declared.bytes.NoMemory.{NoMemory}
+use Rattle.jnl_extract.proofs.Cuts.{split_and}
 
 pub names_same : (a b : Name) → same_name a b ≡ true → a ≡ b
 names_same [] [] e = refl

@@ -21,8 +21,9 @@ use Rattle.site_runner.specs.Ending.{down, primary, failed}
 use Rattle.site_runner.specs.Executes.{Leaves}
 use Rattle.site_runner.specs.Named.{row_on, row_in}
 use Rattle.site_runner.specs.Sites.{Site, site_value, disk_in, site_in}
-use Rattle.site_runner.proofs.Ats.{kept_same, any_shown, refuses_by, on_done}
+use Rattle.site_runner.proofs.Ats.{kept_same, any_shown, refuses_by}
 use Rattle.site_runner.proofs.Stopped.{leaves_at, cut_nowhere}
+use Rattle.repl_section.proofs.Results.{if_ok as on_done}
 
 -- the row refuses it at that site for that cause
 pub record IsUnfit (row : Name → Place → Row) (s : Site) (cause : Cause) : Type 0 where

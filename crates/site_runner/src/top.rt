@@ -65,11 +65,19 @@ fn no_text(alloc: Global) -> Bytes
     }
 }
 
-/// Executes a command, and writes what it answers.
+/// Lets the memory of a long text go, and has room for a short one.
+fn shorten(alloc: Global, text: &mut Bytes) {
+    if SHORT_ANSWER < text.len() {
+        *text = no_text(alloc);
+    }
+}
+
+/// Executes a command, and writes what it answers, for which there is a text whose memory may be used again.
 fn carry_out<K: Sink, D: Disk>(
     alloc: Global,
     slots: &mut Vec<Slot<D>>,
     command: Command,
+    text: &mut Bytes,
     out: &mut K,
 ) -> Result<(), Status>
     requires formed { IsFormed (command_value command) }
@@ -81,13 +89,17 @@ fn carry_out<K: Sink, D: Disk>(
     ensures later { K.faults out.old ≤ K.faults out.new }
     ensures length { length slots.new.items ≡ length slots.old.items }
 {
-    let mut text = no_text(alloc);
-    match execute(alloc, slots, command, &mut text) {
+    text.clear();
+    match execute(alloc, slots, command, text) {
         Err(_) => Err(Status::NoMemory),
-        Ok(_) => match write_all(out, text.as_slice()) {
-            Ok(()) => Ok(()),
-            Err(_) => Err(Status::SinkFault),
-        },
+        Ok(_) => {
+            let written = write_all(out, text.as_slice());
+            shorten(alloc, text);
+            match written {
+                Ok(()) => Ok(()),
+                Err(_) => Err(Status::SinkFault),
+            }
+        }
     }
 }
 
@@ -108,6 +120,7 @@ fn take_line<K: Sink, D: Disk>(
     reader: &mut Script,
     slots: &mut Vec<Slot<D>>,
     line: &[u8],
+    text: &mut Bytes,
     out: &mut K,
 ) -> Result<(), Status>
     requires few { reader.old.lines < 100000 }
@@ -122,7 +135,7 @@ fn take_line<K: Sink, D: Disk>(
     match reader.feed(line) {
         Err(error) => Err(status_of(error)),
         Ok(None) => Ok(()),
-        Ok(Some(command)) => carry_out(alloc, slots, command, out),
+        Ok(Some(command)) => carry_out(alloc, slots, command, text, out),
     }
 }
 
@@ -159,6 +172,7 @@ fn run_lines<S: Source, K: Sink, D: Disk>(
 {
     let mut reader = Script::new(alloc);
     let mut line = Vec::new(alloc);
+    let mut text = no_text(alloc);
     let mut lines = 0u32;
     while lines < MOST_LINES {
         match ahead.read_line(script, &mut line) {
@@ -172,13 +186,13 @@ fn run_lines<S: Source, K: Sink, D: Disk>(
                 };
             }
             Ok(LineEnd::Input) => {
-                match take_line(alloc, &mut reader, slots, &line, out) {
+                match take_line(alloc, &mut reader, slots, &line, &mut text, out) {
                     Ok(()) => return finish(&reader),
                     Err(status) => return status,
                 }
             }
             Ok(LineEnd::Feed) => {
-                match take_line(alloc, &mut reader, slots, &line, out) {
+                match take_line(alloc, &mut reader, slots, &line, &mut text, out) {
                     Ok(()) => lines += 1,
                     Err(status) => return status,
                 }

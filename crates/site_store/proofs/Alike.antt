@@ -11,7 +11,8 @@ use Rattle.site_files.specs.Loading.{MayBeOpened, AreRead, WasRead}
 use Rattle.site_files.proofs.Kept.{image_read}
 use Rattle.site_store.specs.Opening.{AreTextsDurable}
 use Rattle.site_store.proofs.Drawn.{S, C, site_read, site_sound, texts_kept, losts_kept}
-use Rattle.site_store.proofs.Found.{instance_one, blank_instance}
+use Rattle.site_store.proofs.Found.{blank_instance}
+use Rattle.site_files.proofs.WhatIsRead.{instance_one}
 
 module _ (v : View) (rs : List InstanceRecord) (last : ℕ → ℕ) (journal : ℕ → List Placed) (seq : Sequence) (form : MayBeOpened rs last) (sequence : IsSequence (record { instance = rs; journal = journal }) seq)
     (files : Files) (r : WasRead v rs last journal files) where

@@ -190,9 +190,6 @@ commit_bare v w x c h old mid lawful p run is =
 pub quiet_bare : (v : View) (c : Contents) (h : ℕ) (old : Memory) → IsOpen v true c h old → AtEachMoment v v (IsBare c h)
 quiet_bare v c h old is = started v (IsBare c h) (λ f now. none_left v c h old f (is.kept refl) now)
 
-pub site_moments : (v w : View) (c : Contents) (h : ℕ) (old : Memory) → AtEachMoment v w (Image v) → IsOpen v true c h old → AtEachMoment v w (λ f. IsSite f (with_sequence c (take h c.sequence)))
-site_moments v w c h old run is = prepare_moments v w c h old run is
-
 pub commit_stands : (v x : View) (c : Contents) (h : ℕ) → IsLawful x → AtEachMoment v x (λ f. IsSite f (with_sequence c (take h c.sequence))) → IfSome x.content (λ f. IsSite f (with_sequence c (take h c.sequence)))
 commit_stands v x c h lawful run = reads_of x (λ f. IsSite f (with_sequence c (take h c.sequence))) lawful (holds_now v x (λ f. IsSite f (with_sequence c (take h c.sequence))) lawful run)
 

@@ -31,7 +31,8 @@ use Rattle.site_defs.specs.Forward.{begun_mode, start_as, starts_as, begun_as, M
 use Rattle.site_defs.specs.Stands.{start_in, epoch_in, texts_of, losts_of, torn_of, IsSite, HasLeft}
 use Rattle.site_defs.specs.Behind.{IsStanding}
 use Rattle.site_store.proofs.Images.{left_nothing}
-use Rattle.site_store.proofs.Starts.{starts_of, epochs_of, last_is, mode_cut}
+use Rattle.site_store.proofs.Starts.{starts_of, epochs_of, last_is}
+use Rattle.site_files.proofs.Drawings.{mode_cut}
 
 -- generations of the files that stay
 pub texts_kept : (a b : Files) (g : ℕ) → ((h : ℕ) → 1 ≤ h → h ≤ g → b (broken_file h) ≡ a (broken_file h)) → texts_of a g ≡ texts_of b g

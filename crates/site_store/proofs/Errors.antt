@@ -21,12 +21,6 @@ failed_was files.GenLimit fault is = absurd (cc is)
 failed_was (files.NotAFile f o) fault is = absurd (cc is)
 failed_was files.NoMemory fault is = absurd (cc is)
 
-pub limit_was : {T U : Type 0} (x : FilesError) → IsErrOf {T = T} (Err (files_error x)) error.GenLimit → IsErrOf {T = U} (Err x) files.GenLimit
-limit_was (files.Failed f) is = absurd (cc is)
-limit_was files.GenLimit is = ap (λ (e : FilesError). Err e) (λ i. files.GenLimit)
-limit_was (files.NotAFile f o) is = absurd (cc is)
-limit_was files.NoMemory is = absurd (cc is)
-
 pub file_was : {T U : Type 0} (x : FilesError) (file offset : ℕ) → IsErrOf {T = T} (Err (files_error x)) (error.NotAFile file offset) → IsErrOf {T = U} (Err x) (files.NotAFile file offset)
 file_was (files.Failed f) file offset is = absurd (cc is)
 file_was files.GenLimit file offset is = absurd (cc is)
@@ -43,31 +37,6 @@ region_was (regions.NotAFile f o) file offset is =
     let two : o ≡ offset = cc is in
     λ i. Err (regions.NotAFile (one i) (two i))
 region_was regions.NoMemory file offset is = absurd (cc is)
-
--- the files have no such errors
-pub never_stopped : {T : Type 0} (x : FilesError) (fault : ℕ) → IsErrOf {T = T} (Err (files_error x)) (error.Stopped fault) → ⊥
-never_stopped (files.Failed f) fault is = cc is
-never_stopped files.GenLimit fault is = cc is
-never_stopped (files.NotAFile f o) fault is = cc is
-never_stopped files.NoMemory fault is = cc is
-
-pub never_full : {T : Type 0} (x : FilesError) (nodes : ℕ) → IsErrOf {T = T} (Err (files_error x)) (error.Full nodes) → ⊥
-never_full (files.Failed f) nodes is = cc is
-never_full files.GenLimit nodes is = cc is
-never_full (files.NotAFile f o) nodes is = cc is
-never_full files.NoMemory nodes is = cc is
-
-pub never_seq_limit : {T : Type 0} (x : FilesError) → IsErrOf {T = T} (Err (files_error x)) error.SeqLimit → ⊥
-never_seq_limit (files.Failed f) is = cc is
-never_seq_limit files.GenLimit is = cc is
-never_seq_limit (files.NotAFile f o) is = cc is
-never_seq_limit files.NoMemory is = cc is
-
-pub never_reign_limit : {T : Type 0} (x : FilesError) → IsErrOf {T = T} (Err (files_error x)) error.ReignLimit → ⊥
-never_reign_limit (files.Failed f) is = cc is
-never_reign_limit files.GenLimit is = cc is
-never_reign_limit (files.NotAFile f o) is = cc is
-never_reign_limit files.NoMemory is = cc is
 
 -- one of three errors of the files is one of three of a site
 pub causes_on : {T U : Type 0} (x : FilesError) → ((fault : ℕ) × IsErrOf {T = T} (Err x) (files.Failed fault)) ⊎ ((file : ℕ) × (offset : ℕ) × IsErrOf {T = T} (Err x) (files.NotAFile file offset)) ⊎ IsErrOf {T = T} (Err x) files.NoMemory

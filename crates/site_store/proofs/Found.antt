@@ -9,16 +9,12 @@ use Rattle.journal_defs.specs.Instance.{InstanceRecord, Create, Reigned, Cut, Ma
 use Rattle.journal_defs.specs.Stands.{IsInstance}
 use Rattle.std.specs.Prelude.{IfSome}
 use Rattle.disk_defs.proofs.Told.{weaker_told}
-use Rattle.journal_laws.proofs.Readings.{holds_one, instance_body}
 use Rattle.site_files.specs.Loading.{IsDirectory}
 use Rattle.site_defs.specs.Contents.{Contents, nothing, is_made}
 use Rattle.site_defs.specs.Stands.{IsSite, Stands}
 use Rattle.site_store.specs.declared.layout.Layout.{Layout}
 use Rattle.site_store.specs.Finding.{IsLaidOut, IsFound}
-
--- a file has one list of records
-pub instance_one : (file : List ℕ) (rs qs : List InstanceRecord) → IsInstance file rs → IsInstance file qs → rs ≡ qs
-instance_one file rs qs a b = holds_one IsInstanceBody file rs qs instance_body a.bodies b.bodies
+use Rattle.site_files.proofs.WhatIsRead.{instance_one}
 
 -- what was laid out by the records that were read is what any records of the instance file give
 pub exact_by : (o : Option Files) (rs : List InstanceRecord) (found : Option Layout) → IfSome o (λ files. IsInstance (files INSTANCE) rs) → IsLaidOut rs found

@@ -27,6 +27,7 @@ use Rattle.site_defs.specs.Stands.{IsSite, HasLeft}
 use Rattle.site_defs.specs.Behind.{IsSiteWith}
 use Rattle.site_store.proofs.Images.{AreOf, are_of, site_of, texts_same, losts_same, left_nothing}
 use Rattle.site_store.proofs.Starts.{starts_of, epochs_of}
+use Rattle.region_epochs.proofs.Fronts.{no_pini as no_pini_there}
 
 -- of such records
 
@@ -53,10 +54,6 @@ epoch_behind g (i ∷ is) m = epoch_behind g is m
 none_behind : (g : ℕ) (is : List Before) (m : Mark) → tcoms_among (map (in_generation g) (image_records is ++ Epoch m ∷ [])) ≡ []
 none_behind g [] m = refl
 none_behind g (i ∷ is) m = none_behind g is m
-
-no_pini_there : (is : List Before) → AllByRecursion IsNoPini (image_records is)
-no_pini_there [] = tt
-no_pini_there (i ∷ is) = (tt, no_pini_there is)
 
 no_pini_then : (is : List Before) (m : Mark) → AllByRecursion IsNoPini (image_records is ++ Epoch m ∷ [])
 no_pini_then [] m = (tt, tt)

@@ -48,6 +48,8 @@ use Rattle.site_store.proofs.HeldRegions.{changed_not, no_journal, synced_stays}
 use Rattle.site_store.proofs.OnBlocks.{on_same, on_chosen}
 use Rattle.site_store.proofs.Parts.{no_entry_no_part}
 use Rattle.journal_defs.specs.Surviving.{reigns}
+use Rattle.block_laws.proofs.Waiting.{begins_more}
+use Rattle.region_epochs.proofs.Fronts.{with_none}
 
 -- each moment of a hardening of these journals
 abbrev pub HardenMoments : View → View → List RegionJournal → Type 0
@@ -197,7 +199,7 @@ module _ (v w : View) (c : Contents) (h : ℕ) (old new : Memory) (p : Hardens v
       not_last = k.newest.not_last;
       instance = refl;
       whole = λ r here. waiting.whole_more (suc k.g) (k.records.journal r) (k.older r) (k.newer r) (k.waits r) (k.newest.whole r here);
-      begins = λ r here. waiting.begins_more r (suc k.g) (k.last r) (k.newer r) (k.waits r) (k.newest.begun r here) (k.newest.begins r here) (waiting.no_pini (k.waits r) (k.are_waits.others r));
+      begins = λ r here. begins_more r (suc k.g) (k.last r) (k.newer r) (k.waits r) (k.newest.begun r here) (k.newest.begins r here) (waiting.no_pini (k.waits r) (k.are_waits.others r));
       begun = λ r here. waiting.begun_more (k.newer r) (k.waits r) (k.newest.begun r here);
     };
     sound = λ f now. subst (IsSoundImage f all) (sym (take-length c.sequence)) (sound f now);
@@ -208,7 +210,7 @@ module _ (v w : View) (c : Contents) (h : ℕ) (old new : Memory) (p : Hardens v
         let low = few in
         stand_same (stays.images f now).0 f r k.g (k.older r) (λ n le. outside f now (journal_file n r) (λ i. omega (arith, i.is, i.inside, le, here, low))) (k.older_stand (stays.images f now).0 (stays.images f now).1 r here);
     none_past = newest.none_past_whole v c h old k p.ready own;
-    blocks = λ f now. subst (λ (u : Records). AreOnBlocks f u (length c.sequence) new.globals) (sym (waiting.none_more all)) (on_all f now);
+    blocks = λ f now. subst (λ (u : Records). AreOnBlocks f u (length c.sequence) new.globals) (sym (with_none all)) (on_all f now);
     databases = (let low = few in synced_stays v w (IsNewestFile (suc k.g) (length old.journals.journals.items)) (length (regions c.instance)) stays.images (no_journal (suc k.g) (length old.journals.journals.items) (length (regions c.instance)) low) k.databases);
     no_epoch_past = λ r here. none_past_greater c.instance h (length c.sequence) (all.journal r) k.count (none_past_later r here);
     waits = λ r. [];

@@ -1,5 +1,5 @@
 -- A site's regions stay open for calls while other files than their database files change.
-use Rattle.std.proofs.Common.{◌≡◌, inl, inr, ℕ, List, ◌≤◌, ◌<◌, refl, sym, ◌∙◌, ap, subst, arith, length}
+use Rattle.std.proofs.Common.{◌≡◌, inl, inr, ℕ, List, ◌≤◌, ◌<◌, sym, ◌∙◌, ap, subst, arith, length}
 use Rattle.std.proofs.lemmas.Bool.{cases_lt}
 use Rattle.std.proofs.lemmas.List.{get_or_past}
 use Rattle.disk_defs.specs.Disk.{Files, View, Image, From, Reads}
@@ -87,9 +87,6 @@ nodes_same old new same = record {
         ap (λ (s : Standing). s.file) (get_or_past new.regions r no_region (omega (arith, past, count)) ∙ sym (get_or_past old.regions r no_region past))
   ];
 }
-
-pub nodes_kept : (j : Joined) → HasSameNodes j j
-nodes_kept j = record { patterns = refl; count = refl; parts = refl; files = λ r. refl }
 
 pub nodes_then : (a b c : Joined) → HasSameNodes a b → HasSameNodes b c → HasSameNodes a c
 nodes_then a b c first second = record {

@@ -22,23 +22,10 @@ use Rattle.journal_laws.proofs.Naming as naming
 use Rattle.journal_laws.proofs.RecordSteps as steps
 use Rattle.journal_laws.proofs.ImageSteps as images
 use Rattle.journal_laws.proofs.Readings.{records_one}
-use Rattle.region_journals.proofs.Unbroken.{broken_none}
 use Rattle.site_defs.specs.Contents.{Contents, NO_LEFTOVER, is_made}
 use Rattle.site_defs.specs.Stands.{start_in, epoch_in, texts_of, losts_of, torn_of, IsSite, HasLeft}
-
--- A body is that of one record, and the record has one body, so a list of records has one list of bodies.
-zip_front : {R : Type 0} (P : Body → R → Type 0) → ((b d : Body) (r : R) → P b r → P d r → b ≡ d) → (bs ds : List Body) (rs qs : List R)
-    → AllZip P bs rs → AllZip P ds (rs ++ qs) → (more : List Body) × (ds ≡ bs ++ more) × AllZip P more qs
-zip_front P one [] ds [] qs zip longer = (ds, refl, longer)
-zip_front P one [] ds (r ∷ rs) qs zip longer = absurd zip
-zip_front P one (b ∷ bs) ds [] qs zip longer = absurd zip
-zip_front P one (b ∷ bs) [] (r ∷ rs) qs zip longer = absurd longer
-zip_front P one (b ∷ bs) (d ∷ ds) (r ∷ rs) qs zip longer =
-    let rest = zip_front P one bs ds rs qs zip.1 longer.1 in
-    (rest.0, ap (λ (x : Body). x ∷ ds) (one d b r longer.0 zip.0) ∙ ap (λ (l : List Body). b ∷ l) rest.1, rest.2)
-
-one_body : (b d : Body) (r : InstanceRecord) → IsInstanceBody b r → IsInstanceBody d r → b ≡ d
-one_body b d r h k = h.spelled ∙ sym k.spelled
+use Rattle.site_files.proofs.Keeping.{zip_front, one_instance_body as one_body, last_one}
+use Rattle.block_laws.proofs.Unbroken.{broken_none}
 
 -- files with the same records have the same open bodies
 same_bodies : (old new : List ℕ) (rs : List InstanceRecord) → Holds IsInstanceBody old rs → Holds IsInstanceBody new rs → records new ≡ records old
@@ -102,11 +89,6 @@ regions_kept (Create name qs ∷ rs) x some = refl
 regions_kept (Reigned r ∷ rs) x some = refl
 regions_kept (Map region star name ∷ rs) x some = refl
 regions_kept (Mode region before ∷ rs) x some = refl
-
-last_one : (more : List Body) (x : InstanceRecord) → AllZip IsInstanceBody more (x ∷ []) → (body : Body) × (more ≡ body ∷ []) × IsInstanceBody body x
-last_one [] x zip = absurd zip
-last_one (b ∷ []) x zip = (b, refl, zip.0)
-last_one (b ∷ d ∷ bs) x zip = absurd zip.1
 
 -- a site has a region
 some_by : (rs : List InstanceRecord) (bodies : List Body) → AllZip IsInstanceBody bodies rs → BeginsWithCreate rs → 0 < length rs → 1 ≤ length (regions rs)

@@ -7,7 +7,6 @@ pub mod Stood
 pub mod OnBlocks
 pub mod HeldRegions
 pub mod Begun
-pub mod Items
 pub mod Nodes
 pub mod Entries
 pub mod Parts

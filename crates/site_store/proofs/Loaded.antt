@@ -38,13 +38,13 @@ use Rattle.site_store.specs.Site.{Remembers, AreHeld, IsReady, IsOpen, StandOn, 
 use Rattle.site_store.specs.Opening.{MayBeOpenAs, MayBeOpenWithAs, EachStands, AreTextsDurable, AreDatabasesDurable}
 use Rattle.site_store.proofs.Indexing.{stand_images}
 use Rattle.site_store.proofs.OnBlocks.{stand_same}
-use Rattle.site_store.proofs.Found.{instance_one}
 use Rattle.site_store.proofs.Drawn.{S, C, text, site_read, left_read, site_either, standing_either, draws_all}
 use Rattle.site_store.proofs.Alike.{image_sound, image_site}
 use Rattle.site_store.proofs.OpenedTo.{newly, newly_at, open_to}
 use Rattle.entry_index.specs.Found.{IsWhole}
 use Rattle.entry_index.specs.Among.{IsIndexOf}
 use Rattle.entry_index.specs.Order.{StandUpTo}
+use Rattle.site_files.proofs.WhatIsRead.{instance_one}
 
 -- what was opened is what any records of the files stand for
 pub opened_from : (o : Option Files) (v : View) (rs : List InstanceRecord) (last : ℕ → ℕ) (journal : ℕ → List Placed) (seq : Sequence) (s : Memory) → IfSome o (WasRead v rs last journal) → IsSequence (record { instance = rs; journal = journal }) seq
@@ -129,7 +129,7 @@ longer [] x = omega arith
 longer (y ∷ l) x = omega arith
 
 -- as many entries as one likes that lead to the same nodes, where some do; none lead to no nodes
-abbrev quiet_entry : Entry
+abbrev pub quiet_entry : Entry
 quiet_entry = record { stamp = record { root = []; cycle = 0 }; transaction = record { origin = record { updater = 0; serial = 0 }; updates = [] } }
 
 abbrev updates_in : Sequence → List Update

@@ -22,7 +22,7 @@ use Rattle.journal_defs.specs.Growth.{with_more}
 use Rattle.journal_defs.specs.Fit.{IsSoundImage, region_of_update}
 use Rattle.journal_defs.specs.Split.{split, mask_of}
 use Rattle.journal_laws.proofs.Appending.{journal_same}
-use Rattle.journal_laws.proofs.EveryTarget.{goes_on}
+use Rattle.journal_laws.proofs.EveryTarget.{eq_self as eq_same}
 use Rattle.block_laws.specs.Nodes.{union}
 use Rattle.block_laws.specs.Several.{MayAppendAll, logged_all}
 use Rattle.block_laws.proofs.Appends.{chosen_all}
@@ -53,12 +53,14 @@ use Rattle.site_store.specs.declared.layout.Layout.{Layout}
 use Rattle.site_store.specs.Site.{IsReady, AreHeld, AreOnBlocks, IsOnBlocks, Keeps, IsOpen}
 use Rattle.site_store.proofs.Committed as committed
 use Rattle.site_store.proofs.Committed.{AppendMoments}
-use Rattle.site_store.proofs.HeldRegions.{no_journal, synced_stays, nodes_kept, nodes_then}
+use Rattle.site_store.proofs.HeldRegions.{no_journal, synced_stays, nodes_then}
 use Rattle.site_store.proofs.Indexing.{stand_same}
 use Rattle.site_store.proofs.Newest as newest
 use Rattle.site_store.proofs.Standing.{reads_so, told_of, still, read_image}
 use Rattle.site_store.proofs.Waiting as waiting
 use Rattle.site_store.proofs.Waiting.{AreAsOn}
+use Rattle.region_epochs.proofs.Blocks.{needs_more, placed_same}
+use Rattle.region_epochs.proofs.Lifts.{none_yet as nodes_kept}
 
 -- ---- what logging images makes of a site
 
@@ -103,12 +105,6 @@ pub ready_logged : (v w : View) (old new : Memory) → Logs v w old new → IsRe
 ready_logged v w old new p =
     committed.ready_by v w old new p.ready p.journals p.count p.stays p.same.instance p.same.layout (held_logged v w old new p)
     (subst (λ (i : EntryIndex). entry_count i < 2 ^ 40) (sym p.entries) p.ready.few) (subst IsWhole (sym p.entries) p.ready.whole) (ap (λ (i : EntryIndex). i.regions) p.entries)
-
-needs_more : (instance : List InstanceRecord) (t g : ℕ) (journal : List Placed) (is : List Before) → NeedsForward instance t journal → NeedsForward instance t (journal ++ map (in_generation g) (image_records is))
-needs_more instance t g journal [] needs = subst (NeedsForward instance t) (sym (append-nil journal)) needs
-needs_more instance t g journal (i ∷ is) needs =
-    subst (NeedsForward instance t) (append_assoc journal (in_generation g (Pblk i) ∷ []) (map (in_generation g) (image_records is)))
-    (needs_more instance t g (journal ++ in_generation g (Pblk i) ∷ []) is (goes_on instance t journal (in_generation g (Pblk i)) refl needs))
 
 -- one region behind its images, where its file has the same bytes
 region_logged : (d f files : Files) (s u : Records) (n g r : ℕ) (is : List Before) (x y : Standing) → IsOnBlocks d s n r x → IsLogged (files x.file) is x y → u.instance ≡ s.instance → u.journal r ≡ s.journal r ++ map (in_generation g) (image_records is)
@@ -368,15 +364,8 @@ appends_then u v w a b c t logged part hard waits keeps =
 
 -- ---- by what the image of one block leaves
 
-eq_same : (n : ℕ) → (n == n) ≡ true
-eq_same n = grind (arith, nat_tests)
-
 eq_other : (r n : ℕ) → r ≢ n → (r == n) ≡ false
 eq_other r n other = grind (arith, nat_tests, other)
-
-placed_same : (g : ℕ) (is : List Before) → placed_images g is ≡ map (in_generation g) (image_records is)
-placed_same g [] = refl
-placed_same g (i ∷ is) = ap (λ (l : List Placed). in_generation g (Pblk i) ∷ l) (placed_same g is)
 
 as_first : (bytes : List ℕ) (b : ℕ) (free : Bool) → AreAsOn bytes (if free then [] else record { block = b; bytes = block_of bytes b } ∷ [])
 as_first bytes b true = tt

@@ -60,6 +60,8 @@ use Rattle.entry_index.specs.declared.index.EntryIndex.{EntryIndex}
 use Rattle.entry_index.proofs.AmongLaws.{index_behind}
 use Rattle.journal_defs.specs.Surviving.{reigns}
 use Rattle.site_store.proofs.Indexing.{stand_same}
+use Rattle.region_epochs.proofs.Fronts.{with_none}
+use Rattle.block_laws.proofs.Waiting.{begins_more}
 
 -- what an epoch may change is no instance file, no text and no older journal
 away_instance : (g n : ℕ) → IsEpochFile g n INSTANCE → ⊥
@@ -100,7 +102,7 @@ module _ (v : View) (c : Contents) (s : Memory) (k : Keeps v c (length c.sequenc
   pub on_now : (f : Files) → Image v f → AreOnBlocks f k.records (length c.sequence) s.globals
   on_now f now =
       subst (λ (u : Records). AreOnBlocks f u (length c.sequence) s.globals)
-      (ap (λ (waits : ℕ → List JournalRecord). with_more k.records (λ r. map (in_generation (suc k.g)) (waits r))) nothing_waits ∙ waiting.none_more k.records) (k.blocks f now)
+      (ap (λ (waits : ℕ → List JournalRecord). with_more k.records (λ r. map (in_generation (suc k.g)) (waits r))) nothing_waits ∙ with_none k.records) (k.blocks f now)
 
   -- the files as they read are an image
   read : (files : Files) × (v.content ≡ Some files) × Image v files
@@ -274,7 +276,7 @@ module _ (v w : View) (c : Contents) (s : Memory) (k : Keeps v c (length c.seque
         not_last = k.newest.not_last;
         instance = instance_is;
         whole = λ r here. t.more.journal r ∙ waiting.whole_more (suc k.g) (k.records.journal r) (k.older r) (k.newer r) (t.more.more r) (k.newest.whole r here);
-        begins = λ r here. waiting.begins_more r (suc k.g) (k.last r) (k.newer r) (t.more.more r) (k.newest.begun r here) (k.newest.begins r here) (fronted.front_no_pini (length c.sequence) (t.more.more r) (t.more.each r));
+        begins = λ r here. begins_more r (suc k.g) (k.last r) (k.newer r) (t.more.more r) (k.newest.begun r here) (k.newest.begins r here) (fronted.front_no_pini (length c.sequence) (t.more.more r) (t.more.each r));
         begun = λ r here. waiting.begun_more (k.newer r) (t.more.more r) (k.newest.begun r here);
       };
       sound = λ f now. subst (IsSoundImage f t.records) (sym (take-length c.sequence)) (t.kept.sound.images f now);
@@ -285,7 +287,7 @@ module _ (v w : View) (c : Contents) (s : Memory) (k : Keeps v c (length c.seque
           let from = stays.images f now in
           stand_same from.0 f r k.g (k.older r) (λ h le. from.2 (journal_file h r) (older_journal h r 0 le here (ready.each_region ∙ ap (λ (l : List InstanceRecord). length (regions l)) mine.instance))) (k.older_stand from.0 from.1 r here);
       none_past = t.kept.sound.none_past;
-      blocks = λ f now. subst (λ (u : Records). AreOnBlocks f u (length c.sequence) new.globals) (sym (waiting.none_more t.records)) (on_all f now);
+      blocks = λ f now. subst (λ (u : Records). AreOnBlocks f u (length c.sequence) new.globals) (sym (with_none t.records)) (on_all f now);
       databases = λ f d i j r here. (region_kept r here).durable d j ∙ sym ((region_kept r here).durable f i);
       no_epoch_past = λ r here. let e = count_is in subst (λ (l : List InstanceRecord). NoEpochPast (length c.sequence) l (t.records.journal r)) instance_is (t.kept.sound.no_epoch_past r (omega (arith, here, e)));
       waiting = [];

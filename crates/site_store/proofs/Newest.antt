@@ -42,7 +42,8 @@ use Rattle.site_store.proofs.Emptied.{none_left}
 use Rattle.site_store.proofs.Images.{AreOf, are_of, site_of, texts_same, losts_same, torn_same, left_nothing}
 use Rattle.site_store.proofs.Parts.{broken_first, parts_taken, lacks_one}
 use Rattle.site_store.proofs.Waiting as waiting
-use Rattle.site_store.proofs.Waiting.{parts_kept, none_more}
+use Rattle.site_store.proofs.Waiting.{parts_kept}
+use Rattle.region_epochs.proofs.Fronts.{with_none as none_more}
 
 -- an image has the hardened records
 none_taken : {X : Type 0} (m : ℕ) → take {A = X} m [] ≡ []

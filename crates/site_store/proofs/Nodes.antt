@@ -13,7 +13,7 @@ use Rattle.global_defs.specs.Entry.{Update, Set, Kill, ZKill, Globals, apply, is
 use Rattle.global_defs.specs.Evaluation.{MOST_NODES}
 use Rattle.global_defs.proofs.Order.{key_total, key_same}
 use Rattle.site_store.specs.Site.{HasRoomFor}
-use Rattle.site_store.proofs.Items.{one_longer, length-map-of}
+use Rattle.tp_commit.proofs.Placing.{one_longer, length-map-of}
 
 if_none : (b : Bool) (o : Option (List ℕ)) → cond b None o ≡ None → b ≡ false → o ≡ None
 if_none false o e is = e

@@ -38,12 +38,13 @@ use Rattle.site_store.specs.Site.{Remembers, Keeps, IsOpen, AreOnBlocks, AreOnFi
 use Rattle.site_store.proofs.OnBlocks.{IsPlain, anew_or_not, held_same, on_same, on_more, on_chosen}
 use Rattle.site_store.proofs.Drawn.{S, C, cut_at, DrawsTo, newest_is, same_regions, site_read, site_drawn, newest_whole}
 use Rattle.site_store.proofs.Parts.{no_entry_no_part}
-use Rattle.site_store.proofs.Waiting.{none_more, none_wait}
+use Rattle.site_store.proofs.Waiting.{none_wait}
 use Rattle.entry_index.specs.Among.{IsIndexOf}
 use Rattle.entry_index.specs.Order.{StandUpTo}
 use Rattle.entry_index.proofs.AmongLaws.{index_behind}
 use Rattle.journal_defs.specs.Surviving.{reigns}
 use Rattle.site_store.proofs.Indexing.{index_cut, stand_same}
+use Rattle.region_epochs.proofs.Fronts.{with_none as none_more}
 
 -- journals that have just begun
 abbrev pub newly : Journal → RegionJournal

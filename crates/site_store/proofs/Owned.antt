@@ -33,17 +33,6 @@ open_settled v told c h s all is =
     let e : h ≡ length c.sequence = sym is.remembered.hardened ∙ all ∙ remembered_length c h s is.remembered in
     subst (λ (k : ℕ). IsOpen v told c k s) e is
 
--- without a call of the disk
-pub quiet_fronts : (v : View) (c : Contents) (h : ℕ) (s : Memory) → IsOpen v true c h s → AtEachMoment v v (λ f. (o : Contents) × IsFrontOf c.sequence h c o × IsSite f o)
-quiet_fronts v c h s is =
-    let k = is.kept refl in
-    started v (λ f. (o : Contents) × IsFrontOf c.sequence h c o × IsSite f o) (λ f now. (with_sequence c (take h c.sequence), record { count = h; least = omega arith; most = k.count; is = refl }, k.images f now))
-
-pub front_stands : (v : View) (c : Contents) (h : ℕ) (s : Memory) → IsLawful v → IsOpen v true c h s → IfSome v.content (λ f. (o : Contents) × IsFrontOf c.sequence h c o × IsSite f o)
-front_stands v c h s lawful is =
-    let k = is.kept refl in
-    reads_of v (λ f. (o : Contents) × IsFrontOf c.sequence h c o × IsSite f o) lawful (λ f now. (with_sequence c (take h c.sequence), record { count = h; least = omega arith; most = k.count; is = refl }, k.images f now))
-
 -- and nothing lies behind
 flat_none : {X Y : Type 0} (f : X → List Y) (xs : List X) → ((x : X) → f x ≡ []) → flat_map f xs ≡ []
 flat_none f [] none = refl

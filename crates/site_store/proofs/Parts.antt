@@ -19,9 +19,9 @@ use Rattle.journal_defs.specs.Broken.{BrokenPart, part_past, parts_past, broken}
 use Rattle.journal_defs.specs.Growth.{NonePast, AreEntries, placed, appended, with_more}
 use Rattle.journal_laws.proofs.Runs as runs
 use Rattle.region_journals.specs.Fronts.{AreInside}
-use Rattle.region_journals.proofs.Unbroken.{parts_none}
 use Rattle.site_defs.specs.Behind.{parts_of_entry, parts_of_each, parts_in, left_of, AreKept}
 use Rattle.site_store.proofs.Entries.{survives_newest}
+use Rattle.block_laws.proofs.Unbroken.{parts_none}
 
 -- where no entry waits there is none
 pub no_entry_no_part : (ps : List Pattern) (seq : Sequence) → [] ≡ parts_of_each ps (length seq) (drop (length seq) seq)
@@ -57,7 +57,7 @@ past_placed instance g len (x ∷ xs) low =
     ∙ ap (λ (l : List Part). if nat_lt len x.number then x ∷ l else l) (past_placed instance g len xs low)
 
 -- the broken list of records of which none was past an earlier length, with the first few of these parts behind them
-abbrev named : (ℕ → List Part) → ℕ × NamedMode → List BrokenPart
+abbrev pub named : (ℕ → List Part) → ℕ × NamedMode → List BrokenPart
 named f r = map (λ (p : Part). record { region = r.1.name; part = p }) (f r.0)
 
 pub broken_first : (s : Records) (g h len : ℕ) (ps : List (ℕ → Option Part)) (kept : ℕ → ℕ) → NonePast h s → h ≤ len → generation s.instance ≤ g

@@ -9,23 +9,19 @@ use Rattle.journal_defs.specs.Instance.{InstanceRecord, generation, regions}
 use Rattle.journal_defs.specs.Directory.{Pattern, patterns}
 use Rattle.journal_defs.specs.Sequence.{Placed}
 use Rattle.journal_defs.specs.Stands.{IsInstance, IsJournal}
-use Rattle.site_files.specs.Loading.{MayBeOpened, AreRead, WasRead, IsDirectory}
+use Rattle.site_files.specs.Loading.{MayBeOpened, AreRead, WasRead}
 use Rattle.site_files.proofs.RegionsRead.{durable_kept}
 use Rattle.site_defs.specs.Contents.{Contents}
 use Rattle.site_defs.specs.Opening.{last_generation}
 use Rattle.site_defs.specs.Stands.{IsSite}
 use Rattle.site_store.proofs.Found.{all_in_form, region_count, made_some, site_instance, site_directory}
 use Rattle.site_store.proofs.Starts.{starts_of, last_is, last_low}
+use Rattle.site_files.proofs.WhatIsRead.{IsNoSite, IsNoLateSite}
 
 -- a fact that doesn't hang on what the disk tells
 pub told_anyway : (o : Option Files) (P : Type 0) → P → IfSome o (λ _. P)
 told_anyway None P p = _
 told_anyway (Some files) P p = p
-
--- and one of all files
-pub told_of_all : (o : Option Files) (P : Files → Type 0) → ((files : Files) → P files) → IfSome o P
-told_of_all None P all = tt
-told_of_all (Some files) P all = all files
 
 -- a site of which a generation is left may be opened
 module _ (files : Files) (c : Contents) (site : IsSite files c) where
@@ -77,12 +73,6 @@ module _ (files : Files) (c : Contents) (site : IsSite files c) where
     no_more = site.image.held.no_more;
     next = λ r here. site.image.clean.journals (suc (generation rs)) r (omega arith, omega (arith, room)) here;
   }
-
-abbrev pub IsNoSite : Files → Type 0
-IsNoSite files = (qs : List InstanceRecord) (last : ℕ → ℕ) (journal : ℕ → List Placed) → MayBeOpened qs last → AreRead qs last journal files → ⊥
-
-abbrev pub IsNoLateSite : Files → Type 0
-IsNoLateSite files = (qs : List InstanceRecord) → IsInstance (files INSTANCE) qs → 65534 ≤ generation qs → IsDirectory qs None
 
 pub no_site : (o : Option Files) → IfSome o IsNoSite → IfSome o IsNoLateSite → IfSome o (λ files. (c : Contents) → IsSite files c → ⊥)
 no_site o none late = both_weak o IsNoSite IsNoLateSite (λ files. (c : Contents) → IsSite files c → ⊥) none late

@@ -1,11 +1,9 @@
 -- How generations of a region's journal began, and what a CUT leaves of a region's mode.
-use Rattle.std.proofs.Common.{◌≡◌, ℕ, zero, suc, Bool, List, [], ◌∷◌, ◌++◌, ◌≤◌, map, Option, refl, sym, ◌∙◌, ap, arith}
+use Rattle.std.proofs.Common.{◌≡◌, ℕ, zero, suc, List, [], ◌∷◌, ◌++◌, ◌≤◌, map, refl, sym, ◌∙◌, ap, arith}
 use Rattle.std.specs.List.{AllByRecursion, filter_map}
-use Rattle.std.specs.Option.{option_or}
 use Rattle.std.proofs.lemmas.List.Elements.{filter_map-append}
 use Rattle.disk_defs.specs.Disk.{Files}
 use Rattle.journal_defs.specs.Journal.{JournalRecord, Start, Pini, Epoch, Pblk, Tcom, IsNoPini, BeginsWithPini}
-use Rattle.journal_defs.specs.Instance.{InstanceRecord, Cut, mode_in, mode_of}
 use Rattle.journal_defs.specs.Sequence.{Placed}
 use Rattle.journal_defs.specs.Stands.{IsJournal, in_generation, last_began}
 use Rattle.site_defs.specs.Opening.{last_generation}
@@ -56,8 +54,3 @@ last_low files r (suc g) last journal h = by_newer h.0 (last_low files r g h.0 h
     by_newer : (previous : ℕ) → previous ≤ g → (newer : List JournalRecord) → last ≡ last_began previous (suc g) newer → last ≤ suc g
     by_newer previous low [] is = omega (arith, is, low)
     by_newer previous low (x ∷ newer) is = omega (arith, is)
-
--- a CUT gives no region a mode
-pub mode_cut : (rs : List InstanceRecord) (n g r : ℕ) → mode_of (rs ++ Cut n g ∷ []) r ≡ mode_of rs r
-mode_cut [] n g r = refl
-mode_cut (x ∷ rs) n g r = ap (λ (o : Option Bool). option_or o (mode_in x r)) (mode_cut rs n g r)

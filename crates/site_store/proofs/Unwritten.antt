@@ -39,11 +39,11 @@ records_read v w j s a r h = record {
   spelled = h.spelled;
 }
 
-some_read : (o : Option Files) (P Q : Files → Type 0) → ((f : Files) → P f → Q f) → IfSome o P → IfSome o Q
+pub some_read : (o : Option Files) (P Q : Files → Type 0) → ((f : Files) → P f → Q f) → IfSome o P → IfSome o Q
 some_read None P Q f h = tt
 some_read (Some x) P Q f h = f x h
 
-some_and_read : (o : Option Files) (P Q : Files → Type 0) → ((f : Files) → P f → Q f) → IsSomeAnd o P → IsSomeAnd o Q
+pub some_and_read : (o : Option Files) (P Q : Files → Type 0) → ((f : Files) → P f → Q f) → IsSomeAnd o P → IsSomeAnd o Q
 some_and_read None P Q f h = absurd h
 some_and_read (Some x) P Q f h = f x h
 

@@ -7,10 +7,10 @@ use Rattle.std.proofs.Math.Path.{fun_ext}
 use Rattle.std.proofs.lemmas.List.{map-append}
 use Rattle.std.proofs.lemmas.List.Elements.{filter-append, filter_map-append}
 use Rattle.global_defs.specs.Entry.{Transaction}
-use Rattle.journal_defs.specs.Journal.{JournalRecord, Tcom, Pini, Epoch, Pblk, Part, Before, IsNoPini, BeginsWithPini}
-use Rattle.journal_defs.specs.Instance.{InstanceRecord, NamedMode, regions}
+use Rattle.journal_defs.specs.Journal.{JournalRecord, Tcom, Pini, Epoch, Pblk, Part, Before, IsNoPini}
+use Rattle.journal_defs.specs.Instance.{InstanceRecord, regions}
 use Rattle.journal_defs.specs.Directory.{patterns}
-use Rattle.journal_defs.specs.Broken.{BrokenPart, part_past, parts_past, broken}
+use Rattle.journal_defs.specs.Broken.{part_past, parts_past, broken}
 use Rattle.journal_defs.specs.Epochs.{Blocks, Chosen, block_of}
 use Rattle.journal_defs.specs.Fit.{IsAtHome, region_of_update}
 use Rattle.journal_defs.specs.Growth.{placed, appended, tcoms, with_more}
@@ -28,6 +28,8 @@ use Rattle.region_journals.specs.Journals.{listed}
 use Rattle.site_defs.specs.Stands.{start_in, epoch_in}
 use Rattle.site_store.specs.Site.{IsPartOrImage, AreWaiting}
 use Rattle.tp_commit.specs.Parts.{recorded}
+use Rattle.site_store.proofs.Parts.{named}
+use Rattle.region_epochs.proofs.Fronts.{no_tcoms}
 
 -- none of them begins a generation, or is an EPOCH
 all_as : {X : Type 0} (P Q : X → Type 0) → ((x : X) → P x → Q x) → (xs : List X) → AllByRecursion P xs → AllByRecursion Q xs
@@ -67,13 +69,6 @@ no_starts g n xs all = none_placed (λ (p : Placed). start_in p.what) g no_start
 pub no_epochs : (g n : ℕ) (xs : List JournalRecord) → AllByRecursion IsPartOrImage xs → filter_map (λ (p : Placed). epoch_in p.generation p.what) (map (in_generation g) (take n xs)) ≡ []
 no_epochs g n xs all = none_placed (λ (p : Placed). epoch_in p.generation p.what) g (no_epoch g) n xs all
 
-pub begins_more : (r g last : ℕ) (newer xs : List JournalRecord) → newer ≢ [] → BeginsWithPini r g last newer → AllByRecursion IsNoPini xs → BeginsWithPini r g last (newer ++ xs)
-begins_more r g last [] xs begun begins none = absurd (begun refl)
-begins_more r g last (Pini s ∷ rs) xs begun begins none = (begins.0, begins.1, begins.2, all_both IsNoPini rs xs begins.3 none)
-begins_more r g last (Epoch m ∷ rs) xs begun begins none = absurd begins
-begins_more r g last (Pblk b ∷ rs) xs begun begins none = absurd begins
-begins_more r g last (Tcom p ∷ rs) xs begun begins none = absurd begins
-
 pub begun_more : (newer xs : List JournalRecord) → newer ≢ [] → newer ++ xs ≢ []
 begun_more [] xs begun e = begun refl
 begun_more (y ∷ ys) xs begun e = absurd (cc e)
@@ -87,10 +82,6 @@ whole_more g journal older newer xs whole =
 -- and more behind these
 pub more_behind : (g : ℕ) (journal : List Placed) (xs ys : List JournalRecord) → journal ++ map (in_generation g) (xs ++ ys) ≡ (journal ++ map (in_generation g) xs) ++ map (in_generation g) ys
 more_behind g journal xs ys = ap (λ (l : List Placed). journal ++ l) (map-append (in_generation g) xs ys) ∙ sym (append_assoc journal (map (in_generation g) xs) (map (in_generation g) ys))
-
--- with none
-pub none_more : (s : Records) → with_more s (λ r. []) ≡ s
-none_more s = ap (λ (j : ℕ → List Placed). record { instance = s.instance; journal = j }) (fun_ext (λ r. append-nil (s.journal r)))
 
 pub none_wait : (instance : List InstanceRecord) (g : ℕ) → AreWaiting instance g [] (λ r. [])
 none_wait instance g = record { parts_are = λ r. refl; others = λ r. tt; inside = λ r past. refl; at_home = λ r here. tt }
@@ -146,9 +137,6 @@ module _ (g : ℕ) (ps : List (ℕ → Option Part)) (r : ℕ) (xs : List Journa
 
   pub part_first : (instance : List InstanceRecord) (m n : ℕ) → part_of instance m (map (in_generation g) (take n xs)) ≡ part_of instance m (take (parts_kept n xs) (appended g ps r))
   part_first instance m n = part_parts instance m g (take n xs) ∙ ap (part_of instance m) (first_appended n)
-
-abbrev named : (ℕ → List Part) → ℕ × NamedMode → List BrokenPart
-named f r = map (λ (p : Part). record { region = r.1.name; part = p }) (f r.0)
 
 pub broken_same : (s : Records) (len : ℕ) (a b : ℕ → List Placed) → ((r : ℕ) → parts_past s.instance len (a r) ≡ parts_past s.instance len (b r)) → broken (with_more s a) len ≡ broken (with_more s b) len
 broken_same s len a b same = ap (λ (f : ℕ → List Part). flat_map (named f) (enumerate_from 0 (regions s.instance))) (fun_ext each)
@@ -207,10 +195,6 @@ part_waits instance g ps waits part are none home = record {
 }
 
 -- ---- images more
-
-pub no_tcoms : (is : List Before) → filter is_tcom (image_records is) ≡ []
-no_tcoms [] = refl
-no_tcoms (i ∷ is) = no_tcoms is
 
 all_images : (P : JournalRecord → Type 0) → ((i : Before) → P (Pblk i)) → (is : List Before) → AllByRecursion P (image_records is)
 all_images P one [] = tt

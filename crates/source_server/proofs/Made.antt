@@ -1,7 +1,6 @@
 -- What a Source Server has made and sent.
-use Rattle.std.proofs.Common.{◌≡◌, ℕ, zero, suc, ◌+◌, ◌-◌, ◌^◌, ◌<◌, ◌≤◌, ◌==◌, if◌then◌else◌, drop, take, Bool, true, false, List, [], ◌∷◌, ◌++◌, length, refl, sym, ap, subst, ◌∙◌, arith, append_assoc, append-nil, length-append}
+use Rattle.std.proofs.Common.{◌≡◌, ℕ, ◌+◌, ◌-◌, ◌≤◌, ◌==◌, if◌then◌else◌, Bool, true, false, List, [], ◌∷◌, ◌++◌, length, refl, sym, ap, subst, ◌∙◌, arith, append_assoc, append-nil, length-append}
 use Rattle.std.proofs.lemmas.Bool.Decides.{nat_tests}
-use Rattle.std.proofs.lemmas.List.{take-append-drop, length-drop}
 use Rattle.global_defs.specs.Entry.{Reign}
 use Rattle.global_defs.specs.Fields.{IsSiteName, IsReign, short}
 use Rattle.std.specs.Int.{to_be_bytes, w32, w64}
@@ -23,9 +22,6 @@ history_form r h = record {
       let front = length-append (short r.stamp.root) (to_be_bytes w32 r.stamp.cycle) in
       omega (arith, root, head, front);
 }
-
-pub bye_form : (n : ℕ) → n < 2 ^ 40 → IsFrame (Bye n)
-bye_form n few = record { fields = few; short = omega arith }
 
 -- entries one after another
 
@@ -118,41 +114,3 @@ ends a sent from entries goes s = record {
 }
 
 -- what a step sends
-
-drop_none : (n : ℕ) → drop {A = ℕ} n [] ≡ []
-drop_none zero = refl
-drop_none (suc n) = refl
-
-drop_drop : (i j : ℕ) (xs : List ℕ) → drop (i + j) xs ≡ drop j (drop i xs)
-drop_drop zero j xs = let same : 0 + j ≡ j = omega arith in ap (λ (n : ℕ). drop n xs) same
-drop_drop (suc i) j [] = drop_none (suc i + j) ∙ sym (drop_none j)
-drop_drop (suc i) j (x ∷ xs) = let same : suc i + j ≡ suc (i + j) = omega arith in ap (λ (n : ℕ). drop n (x ∷ xs)) same ∙ drop_drop i j xs
-
-pub sent_some : (at n : ℕ) (made sent now : List ℕ) → now ≡ sent ++ take n (drop at made) → now ++ drop (at + n) made ≡ sent ++ drop at made
-sent_some at n made sent now is =
-    let rest = drop at made in
-    ap (λ (l : List ℕ). l ++ drop (at + n) made) is ∙ (append_assoc sent (take n rest) (drop (at + n) made)
-    ∙ ap (λ (l : List ℕ). sent ++ l) (ap (λ (l : List ℕ). take n rest ++ l) (drop_drop at n made) ∙ take-append-drop n rest))
-
-pub none_sent : (a : Shipping) (sent : List ℕ) → HasSent a a sent sent
-none_sent a sent = record { bytes = refl; after = refl }
-
-pub taken_sent : (entry : List ℕ) (a m b : Shipping) (sent now : List ℕ) → a.ended ≡ false → a.pending ≡ [] → m ≡ record a { next = a.next + 1; first = false; pending = made_of a entry }
-    → HasSent m b sent now → HasTaken entry a b sent now
-taken_sent entry a m b sent now goes nothing is h = record {
-  goes_on = goes;
-  bytes = h.bytes ∙ (ap (λ (x : Shipping). sent ++ x.pending) is ∙ ap (λ (l : List ℕ). l ++ made_of a entry) (sym (append-nil sent) ∙ ap (λ (l : List ℕ). sent ++ l) (sym nothing)));
-  after = h.after ∙ ap (λ (x : Shipping). record x { pending = b.pending }) is;
-}
-
--- where an end that moved on stands
-pub sent_part : (at n most left : ℕ) (made bytes sent now : List ℕ) (s b : Shipping) → at ≤ length made → n ≤ length bytes → most ≡ length made → left ≡ length bytes → bytes ≡ drop at made
-    → now ≡ sent ++ take n bytes → s.pending ≡ drop at made → b ≡ record s { pending = drop (most - (left - n)) made } → HasSent s b sent now
-sent_part at n most left made bytes sent now s b inside few is_most is_left is got pending after =
-    let size : length bytes ≡ length made - at = ap length is ∙ length-drop at made in
-    let place : most - (left - n) ≡ at + n = omega (arith, inside, few, is_most, is_left, size) in
-    let left_over : b.pending ≡ drop (at + n) made = ap (λ (x : Shipping). x.pending) after ∙ ap (λ (k : ℕ). drop k made) place in
-    record {
-      bytes = ap (λ (l : List ℕ). now ++ l) left_over ∙ (sent_some at n made sent now (got ∙ ap (λ (l : List ℕ). sent ++ take n l) is) ∙ ap (λ (l : List ℕ). sent ++ l) (sym pending));
-      after = after ∙ ap (λ (l : List ℕ). record s { pending = l }) (sym (ap (λ (x : Shipping). x.pending) after));
-    }

@@ -317,7 +317,7 @@ site_told files c u t r site held inside =
 pub instance_of : (files : Files) (c : Contents) (u : Records) → IsSite files c → AreRecords files u → c.instance ≡ u.instance
 instance_of files c u site held = sym site.instance ∙ ap (λ (x : Records). x.instance) (records_one files site.records u site.image.held held)
 
-slice_inside : {X : Type 0} (xs : List X) (i : ℕ) (x : X) → slice_get xs i ≡ Some x → i < length xs
+pub slice_inside : {X : Type 0} (xs : List X) (i : ℕ) (x : X) → slice_get xs i ≡ Some x → i < length xs
 slice_inside [] i x e = cc
 slice_inside (y ∷ ys) zero x e = omega arith
 slice_inside (y ∷ ys) (suc i) x e = let less = slice_inside ys i x e in omega (arith, less)
@@ -368,9 +368,6 @@ first_from c u t r (m ∷ ms) (suc i) mode g there told needs earlier =
     (first_from c u t (suc r) ms i mode g there (λ q low high. told q (omega (arith, low)) (omega (arith, high))) (subst (λ (q : ℕ). without_behind u t q ≡ Some g) (omega arith) needs) (λ q low high. earlier q (omega (arith, low)) (omega (arith, high))))
 
 -- Of a site's contents.
-
-abbrev TellsOf : Contents → Records → ℕ → Type 0
-TellsOf c u t = (q : ℕ) → q < length (regions c.instance) → IsTold c u t q
 
 past_earlier : (c : Contents) (u : Records) (t q : ℕ) (b : Bool) → is_bare_epoch c t q ≡ b → IsTold c u t q → without_behind u t q ≡ None → bare_past c t q ≡ None
 past_earlier c u t q false clear told none = past_none c u t q told clear none

@@ -6,6 +6,7 @@ use Rattle.world_defs.specs.Answers.{Answer}
 use Rattle.world_defs.specs.Row.{Row, Here}
 use Rattle.world_defs.specs.Meaning.{Others, Meaning, Acts}
 use Rattle.world_defs.specs.Step.{One, LeftByRow, LeavesOld, IsCut}
+use Rattle.world_laws.proofs.Alongs.{same_place}
 
 module _ {X Y : Type 0} (R : X → Place → Type 0) (S : Y → Place → Type 0) where
   along_build : (Q : ℕ → Place → Place → Type 0) (olds : List X) (news : List Y) (ps : List Place) → Along (λ j. R) olds ps
@@ -52,9 +53,6 @@ module _ {X Y : Type 0} (R : X → Place → Type 0) (S : Y → Place → Type 0
   pub kept_alike : (Q : Place → Place → Type 0) (olds : List X) (news : List Y) (w : World) → Along (λ j. R) olds w.places → Along (λ j x y. (r : Place) → R x r → (s : Place) × Q r s × S y s) olds news
       → (m : World) × Along (λ j. Q) w.places m.places × Along (λ j. S) news m.places
   kept_alike Q olds news w h f = let ms = along_build (λ j. Q) olds news w.places h f in (record { places = ms.0 }, ms.1, ms.2)
-
-same_place : (x p : Place) → Some x ≡ Some p → x ≡ p
-same_place x p e = cc
 
 at_left : (L : Place → Place → Type 0) (i : ℕ) (p q : Place) (Q : ℕ → Place → Place → Type 0) (ps ms : List Place) → slice_get ps i ≡ Some p → L p q
     → At i (λ old new. new ≡ q) Q ps ms → At i L Q ps ms

@@ -2,7 +2,7 @@
 use Rattle.std.proofs.Common.{◌≤◌, List, [], ◌∷◌, arith}
 use Rattle.disk_defs.specs.Disk.{Rose}
 use Rattle.site_defs.specs.Lists.{Along}
-use Rattle.world_defs.specs.World.{Place, Kept}
+use Rattle.world_defs.specs.World.{Place}
 use Rattle.world_laws.specs.Faults.{HasNotFallen, HasNotRisen}
 use Rattle.world_laws.proofs.Alongs.{along_through}
 
@@ -20,9 +20,6 @@ rose_before x y z h k = omega arith
 
 pub rose_behind : (x y z : Place) → HasNotFallen x y → Rose y.faults z.faults → Rose x.faults z.faults
 rose_behind x y z h k = omega arith
-
-pub kept_later : (x y : Place) → Kept x y → HasNotFallen x y
-kept_later x y k = later x y k.faults
 
 -- worlds, place by place
 

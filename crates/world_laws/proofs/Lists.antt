@@ -1,5 +1,5 @@
 -- Lists: what holds of each element, and elements by their places.
-use Rattle.std.proofs.Common.{◌≡◌, ◌⊎◌, inl, inr, ℕ, zero, suc, ◌<◌, List, [], ◌∷◌, ◌++◌, length, take, Some, None, slice_get, refl, ap, arith}
+use Rattle.std.proofs.Common.{◌≡◌, ℕ, zero, suc, ◌<◌, List, [], ◌∷◌, ◌++◌, length, take, Some, None, slice_get, arith}
 use Rattle.std.specs.List.{AllByRecursion}
 
 pub all-weaker : {X : Type 0} (P Q : X → Type 0) → ((x : X) → P x → Q x) → (xs : List X) → AllByRecursion P xs → AllByRecursion Q xs
@@ -19,15 +19,6 @@ pub all-get : {X : Type 0} (P : X → Type 0) (xs : List X) (i : ℕ) (x : X) �
 all-get P [] i x h is = let none : None ≡ Some x = is in cc
 all-get P (y ∷ xs) zero x h is = let same : Some y ≡ Some x = is in let e : y ≡ x = cc in rw (← e) h.0
 all-get P (y ∷ xs) (suc i) x h is = all-get P xs i x h.1 is
-
-pub get-push : {X : Type 0} (xs : List X) (y : X) (i : ℕ) (x : X) → slice_get (xs ++ y ∷ []) i ≡ Some x → (slice_get xs i ≡ Some x) ⊎ ((i ≡ length xs) × (x ≡ y))
-get-push [] y zero x is = let same : Some y ≡ Some x = is in inr (refl, cc)
-get-push [] y (suc i) x is = let none : None ≡ Some x = is in cc
-get-push (z ∷ xs) y zero x is = inl is
-get-push (z ∷ xs) y (suc i) x is = elim (get-push xs y i x is) [
-  | inl old ↦ inl old
-  | inr last ↦ inr (ap suc last.0, last.1)
-]
 
 pub get-within : {X : Type 0} (xs : List X) (i : ℕ) (x : X) → slice_get xs i ≡ Some x → i < length xs
 get-within [] i x is = let none : None ≡ Some x = is in cc

@@ -7,6 +7,7 @@ use Rattle.site_defs.specs.Lists.{Among}
 use Rattle.world_defs.specs.World.{Down, Failed, Site, Place, Kept, StandAsBefore}
 use Rattle.world_defs.specs.Changes.{in_new_state, Stays, ChangesUnknown}
 use Rattle.world_laws.specs.Settled.{IsOpenSite, IsSettledPlace, IsBarePlace}
+use Rattle.world_laws.proofs.EntriesStay.{only_one}
 
 settled-kept : (x y : Place) → Kept x y → IsSettledPlace x → IsSettledPlace y
 settled-kept x y k h = record {
@@ -30,10 +31,6 @@ settled-changed x y c = record { outcomes = λ t. absurd (not_told x y c t); lef
 -- no open site
 pub settled-closed : (q : Place) → (IsOpenSite q.site → ⊥) → IsSettledPlace q
 settled-closed q none = record { outcomes = λ t up. absurd (none up); left = λ t up. absurd (none up) }
-
-only_one : (o c : Contents) → Among (c ∷ []) o → o ≡ c
-only_one o c (inl e) = e
-only_one o c (inr none) = absurd none
 
 settled-stays : (site : Option Site) (c : Contents) (p q : Place) → Stays site c p q → IsSettledPlace q
 settled-stays site c p q s = record {

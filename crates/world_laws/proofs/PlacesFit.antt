@@ -8,7 +8,7 @@ use Rattle.world_defs.specs.World.{State, Down, Primary, Failed, Site, Place, Wo
 use Rattle.site_defs.specs.Contents.{Contents, Standing}
 use Rattle.site_defs.specs.Epochs.{MayMark, marked}
 use Rattle.site_defs.specs.Opening.{MayMap, MaySetMode, with_pattern, with_mode}
-use Rattle.world_defs.specs.Changes.{in_new_state, Stays, Becomes, Fails, FailsUnchanged, ChangesUnknown, KeptUnknown}
+use Rattle.world_defs.specs.Changes.{in_new_state, Stays, Becomes, Fails, FailsUnchanged, ChangesUnknown}
 use Rattle.world_defs.specs.rows.Attach.{Attaches}
 use Rattle.world_defs.specs.rows.Crash.{Crashes}
 use Rattle.world_defs.specs.rows.Create.{created, MayMake}
@@ -36,9 +36,6 @@ pub fit-kept : (old new : Place) → Kept old new → IsFitPlace old → IsFitPl
 fit-kept old new k h =
     fit-place old new old.site old.now k.known.told k.site k.now (λ t. (h.now t, h.named_now t, h.site t))
     (λ t o a. (h.outcomes t o (k.known.outcomes o a), h.named t o (k.known.outcomes o a)))
-
-pub fit-unknown : (old new : Place) → KeptUnknown old new → IsFitPlace old → IsFitPlace new
-fit-unknown old new k h = fit-kept old new k.kept h
 
 pub fit-changed : (old new : Place) → ChangesUnknown old new → IsFitPlace new
 fit-changed old new c = record {

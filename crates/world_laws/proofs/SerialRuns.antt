@@ -1,5 +1,5 @@
 -- Serial runs: among the entries of one stamp each updater's serials go on rising, and its next one is past them.
-use Rattle.std.proofs.Common.{◌≡◌, inl, inr, ℕ, zero, suc, ◌+◌, ◌-◌, ◌≤◌, ◌<◌, nat_lt, leb, Bool, true, false, List, [], ◌∷◌, ◌++◌, length, take, get_or, set, Option, Some, None, refl, sym, ◌∙◌, ap, subst, arith, if◌then◌else◌}
+use Rattle.std.proofs.Common.{◌≡◌, inl, inr, ℕ, zero, suc, ◌+◌, ◌-◌, ◌≤◌, ◌<◌, nat_lt, leb, Bool, true, false, List, [], ◌∷◌, ◌++◌, length, take, set, Option, Some, None, refl, sym, ◌∙◌, ap, subst, arith, if◌then◌else◌}
 use Rattle.std.proofs.lemmas.Bool.{and_parts, and_from, leb-true}
 use Rattle.std.proofs.lemmas.List.{get_or-set_same}
 use Rattle.std.proofs.Math.ListN.{length-set}
@@ -8,12 +8,14 @@ use Rattle.global_defs.specs.Entry.{Update, Stamp, Entry, Sequence, state}
 use Rattle.global_defs.specs.Evaluation.{Evaluated, Done, RolledBack, eval}
 use Rattle.global_defs.specs.Jobs.{Job, Answers, SeqLimit}
 use Rattle.global_defs.specs.Serial as serials
-use Rattle.global_defs.specs.Serial.{MOST_ENTRIES, Turn, Reply, Seq, Read, serial_at, entry_of, replied, appended, decided, picked, serial, next_job}
+use Rattle.global_defs.specs.Serial.{MOST_ENTRIES, Turn, Seq, serial_at, entry_of, replied, decided, picked, serial, next_job}
 use Rattle.command_defs.specs.Updaters.{is_updater, UPDATERS}
 use Rattle.journal_defs.specs.Fit.{SerialsRise}
 use Rattle.journal_laws.proofs.FrontFacts as fronts
 use Rattle.world_defs.specs.Fit.{IsBeforeNext}
-use Rattle.world_laws.proofs.Lists.{all-weaker, all-push, all-get, get-push, get-within}
+use Rattle.world_laws.proofs.Lists.{all-weaker, all-push, all-get, get-within}
+use Rattle.global_defs.proofs.Lists.{get-push}
+use Rattle.global_defs.proofs.Lists.{at_least}
 
 -- an entry of the site's own has none but these cycles
 abbrev pub IsOf : (name : List ℕ) → (cycles : ℕ) → Entry → Type 0
@@ -27,13 +29,6 @@ pub record IsGoing (name : List ℕ) (cycles : ℕ) (stamp : Stamp) (next : List
   pub before : AllByRecursion (IsBeforeNext stamp next) seq
 
 -- no updater's next serial falls
-at_least : (next : List ℕ) (i k : ℕ) → get_or next i 1 ≤ get_or (set next k (get_or next k 1 + 1)) i 1
-at_least [] i k = omega arith
-at_least (x ∷ xs) zero zero = omega arith
-at_least (x ∷ xs) zero (suc k) = omega arith
-at_least (x ∷ xs) (suc i) zero = omega arith
-at_least (x ∷ xs) (suc i) (suc k) = at_least xs i k
-
 before-risen : (stamp : Stamp) (next : List ℕ) (u : ℕ) (seq : Sequence) → AllByRecursion (IsBeforeNext stamp next) seq
     → AllByRecursion (IsBeforeNext stamp (set next (u - 1) (serial_at next u + 1))) seq
 before-risen stamp next u seq h =

@@ -4,16 +4,12 @@ use Rattle.global_defs.specs.Entry.{Update, Stamp, Entry, Sequence, state}
 use Rattle.global_defs.specs.Evaluation.{Evaluated, Done, RolledBack, eval}
 use Rattle.global_defs.specs.Jobs.{Job, Answers, Cause, SeqLimit}
 use Rattle.global_defs.specs.Serial as serials
-use Rattle.global_defs.specs.Serial.{MOST_ENTRIES, Turn, Reply, Replied, Seq, Read, serial_at, entry_of, replied, appended, decided, picked, serial, next_job, begun}
+use Rattle.global_defs.specs.Serial.{MOST_ENTRIES, Turn, Reply, Replied, Seq, Read, serial_at, entry_of, replied, decided, picked, serial, next_job, begun}
 use Rattle.site_defs.specs.Lists.{Among}
 use Rattle.world_laws.specs.Entries.{IsEntryAt, IsReplied}
+use Rattle.global_defs.proofs.Lists.{get-append as get-more}
 
 -- elements by their places
-
-get-more : {X : Type 0} (xs ys : List X) (i : ℕ) (x : X) → slice_get xs i ≡ Some x → slice_get (xs ++ ys) i ≡ Some x
-get-more [] ys i x is = let none : None ≡ Some x = is in cc
-get-more (z ∷ xs) ys zero x is = is
-get-more (z ∷ xs) ys (suc i) x is = get-more xs ys i x is
 
 get-last : {X : Type 0} (xs : List X) (y : X) → slice_get (xs ++ y ∷ []) (length xs) ≡ Some y
 get-last [] y = refl

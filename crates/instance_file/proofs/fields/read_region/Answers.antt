@@ -1,4 +1,4 @@
-use Rattle.instance_file.proofs.Chains.{site, truth, behind}
+use Rattle.repl_fields.proofs.Chains.{site, truth, behind}
 use Rattle.instance_file.proofs.fields.read_region.Goals as goal
 
 pub returns-in_err-before : goal.returns-in_err-before

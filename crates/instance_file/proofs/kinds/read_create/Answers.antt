@@ -1,6 +1,6 @@
 use Rattle.std.proofs.Common.{◌≡◌, arith, Some, None, map}
 use Rattle.instance_file.specs.Values.{named_mode}
-use Rattle.instance_file.proofs.Chains.{byte, site, joined}
+use Rattle.repl_fields.proofs.Chains.{byte, site, joined}
 use Rattle.instance_file.proofs.Bodies.{counted, regions_read}
 use Rattle.instance_file.proofs.kinds.read_create.Goals as goal
 

@@ -1,4 +1,4 @@
-use Rattle.instance_file.proofs.Chains.{double, word, behind}
+use Rattle.repl_fields.proofs.Chains.{double, word, behind}
 use Rattle.instance_file.proofs.Bodies.{no_cut}
 use Rattle.instance_file.proofs.kinds.read_cut.Goals as goal
 

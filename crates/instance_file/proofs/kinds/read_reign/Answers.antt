@@ -1,6 +1,6 @@
 use Rattle.std.proofs.Common.{◌≡◌}
 use Rattle.global_defs.specs.Entry.{Reign}
-use Rattle.instance_file.proofs.Chains.{site, word, double, front, behind, joined}
+use Rattle.repl_fields.proofs.Chains.{site, word, double, front, behind, joined}
 use Rattle.instance_file.proofs.Bodies.{times, no_reign, bad_reign, some_reign}
 use Rattle.instance_file.proofs.kinds.read_reign.Goals as goal
 

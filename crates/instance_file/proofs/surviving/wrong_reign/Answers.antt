@@ -6,7 +6,7 @@ use Rattle.journal_defs.specs.Stands.{StartsRise}
 use Rattle.gvn_model.specs.Reigns.{reign_value}
 use Rattle.instance_file.specs.Values.{record_value}
 use Rattle.instance_file.proofs.Bounds.{bound_here, length-bounds}
-use Rattle.instance_file.proofs.Histories.{last_start}
+use Rattle.global_defs.proofs.Starts.{last_start}
 use Rattle.instance_file.proofs.Scanning.{scanned_all, next_none, rising_some, last_some, wrong_some}
 use Rattle.instance_file.proofs.surviving.wrong_reign.Goals as goal
 use Rattle.instance_file.proofs.surviving.wrong_reign.Goals.{in-Some+else-reign-low, in_default}

@@ -11,7 +11,8 @@ use Rattle.instance_file.specs.Reading.{FindsRecord, IsNoRecord}
 use Rattle.site_defs.specs.OutsideInstance.{HasWrongRecord}
 use Rattle.instance_file.specs.declared.record.InstanceRecord.{InstanceRecord}
 use Rattle.instance_file.specs.declared.error.InstanceError.TheVariants.{NotARecord}
-use Rattle.instance_file.proofs.Passing.{Passed, passed_none, told_same, told_next, told_wrong, told_no_record, told_end}
+use Rattle.instance_file.proofs.Passing.{Passed, passed_none, told_next, told_wrong, told_no_record, told_end}
+use Rattle.gated_file.proofs.Listed.{told_same}
 use Rattle.instance_file.proofs.walking.read_log.Goals as goal
 
 all_push : {X : Type 0} → (P : X → Type 0) → (xs : List X) (x : X) → AllByRecursion P xs → P x → AllByRecursion P (xs ++ x ∷ [])

@@ -1,6 +1,6 @@
 use Rattle.std.proofs.Common.{◌++◌, ◌∷◌, [], ◌∙◌}
 use Rattle.std.proofs.lemmas.Result.{on_ok_weaker}
-use Rattle.instance_file.proofs.Pushes.{three}
+use Rattle.repl_fields.proofs.Pushes.{three}
 use Rattle.instance_file.proofs.Bodies.{each_region}
 use Rattle.instance_file.proofs.writing.write_record.Goals as goal
 

@@ -2,7 +2,7 @@ use Rattle.std.proofs.Common.{◌++◌, ◌∷◌, [], ◌∙◌, ap, append_ass
 use Rattle.std.specs.Int.{to_be_bytes, w32, w64}
 use Rattle.std.proofs.lemmas.Result.{on_ok_weaker}
 use Rattle.global_defs.specs.Fields.{short}
-use Rattle.instance_file.proofs.Pushes.{then, three}
+use Rattle.repl_fields.proofs.Pushes.{then, three}
 use Rattle.instance_file.proofs.writing.write_reign.Goals as goal
 
 pub returns : goal.returns

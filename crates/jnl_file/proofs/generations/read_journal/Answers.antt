@@ -2,7 +2,7 @@ use Rattle.std.proofs.Common.{rules, ◌≡◌, List, Some, IsErrOf}
 use Rattle.disk_defs.specs.Gates.{Body, records}
 use Rattle.disk_defs.specs.OutsideGates.{IsOutside}
 use Rattle.jnl_file.specs.declared.error.JournalError.TheVariants.{NotARecord}
-use Rattle.jnl_file.proofs.Walk.{told_same}
+use Rattle.gated_file.proofs.Listed.{told_same}
 use Rattle.jnl_file.proofs.Outside.{told_stops, told_outside}
 use Rattle.jnl_file.proofs.generations.read_journal.Goals as goal
 

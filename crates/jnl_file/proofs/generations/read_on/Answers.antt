@@ -11,7 +11,7 @@ use Rattle.jnl_file.specs.Reading.{FindsRecord, IsReadRecord, IsNoRecord}
 use Rattle.jnl_file.specs.Generations.{MayJoin, StopsAt}
 use Rattle.jnl_file.specs.declared.error.JournalError.TheVariants.{NotARecord}
 use Rattle.journal_laws.proofs.ImageSteps.{all_both}
-use Rattle.jnl_file.proofs.Walk.{told_same}
+use Rattle.gated_file.proofs.Listed.{told_same}
 use Rattle.jnl_file.specs.Newer.{Reached}
 use Rattle.jnl_file.proofs.Newer.{all_told, reached_start, told_reached, told_ended, told_no_record, told_refused}
 use Rattle.jnl_file.proofs.generations.read_on.Goals as goal

@@ -7,7 +7,8 @@ use Rattle.jnl_record.specs.declared.record.JnlRecord.{JnlRecord}
 use Rattle.jnl_file.specs.Reading.{FindsRecord, IsNoRecord, MayStand}
 use Rattle.site_defs.specs.OutsideJournal.{HasWrongRecord}
 use Rattle.jnl_file.specs.declared.error.JournalError.TheVariants.{NotARecord}
-use Rattle.jnl_file.proofs.Walk.{Walked, walked_start, told_next, told_wrong, told_none, told_end, told_same}
+use Rattle.jnl_file.proofs.Walk.{Walked, walked_start, told_next, told_wrong, told_none, told_end}
+use Rattle.gated_file.proofs.Listed.{told_same}
 use Rattle.jnl_file.proofs.reading.read_whole.Goals as goal
 
 untrue : (b : Bool) → b ≡ false → IsTrue b → ⊥

@@ -1,5 +1,5 @@
 use Rattle.std.proofs.Common.{◌≡◌}
-use Rattle.jnl_record.proofs.Chains.{word, image, joined}
+use Rattle.repl_fields.proofs.Chains.{word, image, joined}
 use Rattle.jnl_record.proofs.Records.{some_before}
 use Rattle.jnl_record.proofs.kinds.read_before.Goals as goal
 

@@ -1,4 +1,4 @@
-use Rattle.jnl_record.proofs.Chains.{word, double, truth, front, behind}
+use Rattle.repl_fields.proofs.Chains.{word, double, truth, front, behind}
 use Rattle.jnl_record.proofs.Records.{number_on, no_mark}
 use Rattle.jnl_record.proofs.kinds.read_mark.Goals as goal
 

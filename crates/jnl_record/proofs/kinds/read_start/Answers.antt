@@ -1,6 +1,6 @@
 use Rattle.std.proofs.Common.{◌≡◌, arith}
 use Rattle.journal_defs.specs.Journal.{IsStart}
-use Rattle.jnl_record.proofs.Chains.{byte, word, truth, front, behind, joined}
+use Rattle.repl_fields.proofs.Chains.{byte, word, truth, front, behind, joined}
 use Rattle.jnl_record.proofs.Records.{generations, mode_on, region_on, no_start, some_start}
 use Rattle.jnl_record.proofs.kinds.read_start.Goals as goal
 

@@ -1,4 +1,4 @@
-use Rattle.jnl_record.proofs.Chains.{byte, half, word, double, front, behind, joined}
+use Rattle.repl_fields.proofs.Chains.{byte, half, word, double, front, behind, joined}
 use Rattle.jnl_record.proofs.Records.{count_on, serial_on, updater_on, mask_on, no_head, bad_head, some_head}
 use Rattle.jnl_record.proofs.parts.read_head.Goals as goal
 

@@ -1,5 +1,5 @@
 use Rattle.std.proofs.Common.{arith, rules, Some}
-use Rattle.jnl_record.proofs.Chains.{Reads, byte}
+use Rattle.repl_fields.proofs.Chains.{Reads, byte}
 use Rattle.jnl_record.proofs.ItemLists.{no_position, some_item}
 use Rattle.jnl_record.proofs.parts.read_item.Goals as goal
 

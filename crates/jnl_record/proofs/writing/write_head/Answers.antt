@@ -1,6 +1,6 @@
 use Rattle.std.proofs.Common.{◌++◌, ◌∷◌, [], ◌∙◌}
 use Rattle.std.proofs.lemmas.Result.{on_ok_weaker}
-use Rattle.jnl_record.proofs.Pushes.{then}
+use Rattle.repl_fields.proofs.Pushes.{then}
 use Rattle.jnl_record.proofs.writing.write_head.Goals as goal
 
 pub returns-clause-ok : goal.returns-clause-ok

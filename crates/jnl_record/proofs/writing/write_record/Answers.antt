@@ -4,7 +4,7 @@ use Rattle.gvn_model.specs.Items.{item_value}
 use Rattle.journal_defs.specs.Journal.{spelled_item}
 use Rattle.jnl_record.specs.declared.parts.Head.{Head}
 use Rattle.jnl_record.specs.Heads.{spelled_head}
-use Rattle.jnl_record.proofs.Pushes.{three}
+use Rattle.repl_fields.proofs.Pushes.{three}
 use Rattle.jnl_record.proofs.Records.{few, each_update}
 use Rattle.jnl_record.proofs.writing.write_record.Goals as goal
 

@@ -5,8 +5,9 @@ use Rattle.std.specs.BTreeSet.{contains}
 use Rattle.std.proofs.lemmas.List.{nil_from_length}
 use Rattle.entry_index.specs.declared.placed.PlacedSign.{PlacedSign}
 use Rattle.region_opening.proofs.Said.{NO_SIGN}
-use Rattle.region_opening.proofs.Without.{none_found, not_this}
+use Rattle.region_opening.proofs.Without.{not_this}
 use Rattle.region_opening.proofs.forward.first_among.Goals as goal
+use Rattle.mupip_recover.proofs.Without.{none_found}
 
 pub returns-then-is_empty : goal.returns-then-is_empty
 returns-then-is_empty c =

@@ -4,8 +4,9 @@ use Rattle.global_defs.specs.Entry.{apply}
 use Rattle.global_defs.specs.Fields.{IsUpdate}
 use Rattle.gvn_key.specs.Terms.{update_value}
 use Rattle.block_laws.specs.Nodes.{updates_in}
-use Rattle.region_opening.proofs.Replays.{unchanged, changed_then, update_more, holds_at}
+use Rattle.region_opening.proofs.Replays.{changed_then, update_more, holds_at}
 use Rattle.region_opening.proofs.replaying.replay_updates.Goals as goal
+use Rattle.region_store.proofs.Making.{unchanged}
 
 pub loop-update-init : goal.loop-update-init
 loop-update-init c = record { made = refl; changed = unchanged c.args.region.now }

@@ -7,10 +7,10 @@ use Rattle.instance_file.specs.Instance as instances
 use Rattle.jnl_file.specs.Journal as journals
 use Rattle.jnl_file.specs.declared.journal.Journal.{Journal}
 use Rattle.site_files.specs.Loading.{AreUnbegun, last_of, first_by, next_cut, next_broken}
-use Rattle.site_files.proofs.Writing.{on_ok, if_ok}
+use Rattle.site_files.proofs.Writing.{on_ok}
 use Rattle.site_files.proofs.Drawings as drawings
-use Rattle.site_files.proofs.Drawings.{given, taken}
 use Rattle.site_files.proofs.drawing.draw.Goals as goal
+use Rattle.gated_file.proofs.Begins.{if_ok}
 
 pub cut_off-requires-clause-read : goal.cut_off-requires-clause-read
 cut_off-requires-clause-read g c =

@@ -5,10 +5,11 @@ use Rattle.site_runner.specs.declared.slot.Slot.{Slot}
 use Rattle.site_runner.specs.declared.slot.Slot.TheVariants.{Free}
 use Rattle.site_runner.specs.Executes.{Executes, IsCutOff}
 use Rattle.site_runner.specs.Sites.{AreReady}
-use Rattle.site_runner.proofs.Results.{on_ok, on_refused, err_so, ok_so}
+use Rattle.site_runner.proofs.Results.{on_refused, ok_so, err_holds as err_so}
 use Rattle.site_runner.proofs.Lifts.{put_back_is, still_inside, ready_back, length_back}
 use Rattle.site_runner.proofs.AttachLifts.{no_disk_to_attach, attach_not_begun, attach_done, attach_cut_off}
 use Rattle.site_runner.proofs.attach.attach.Goals as goal
+use Rattle.repl_section.proofs.Results.{on_ok}
 
 pub returns-in-None-clause-ready : goal.returns-in-None-clause-ready
 returns-in-None-clause-ready g c = ok_so c.refuse.result _ (subst (λ (x : List (Slot g.row.D.Denot)). AreReady g.D.Disk.disk x) (sym c.in-None.ensures.none) c.requires)

@@ -5,7 +5,7 @@ use Rattle.world_defs.specs.Answers.{line}
 use Rattle.repl_script.specs.Commands.{region_value}
 use Rattle.site_runner.specs.declared.slot.Slot.{Slot}
 use Rattle.site_runner.specs.Sites.{is_slot_named}
-use Rattle.site_runner.proofs.Results.{on_refused, err_so}
+use Rattle.site_runner.proofs.Results.{on_refused, err_holds as err_so}
 use Rattle.site_runner.proofs.CreateLifts.{exists_there, create_not_begun}
 use Rattle.site_runner.proofs.create.create.Goals as goal
 

@@ -7,9 +7,10 @@ use Rattle.site_runner.specs.declared.slot.Slot.{Slot}
 use Rattle.site_runner.specs.Sites.{is_slot_named}
 use Rattle.site_runner.specs.Executes.{Executes, IsCutOff}
 use Rattle.site_runner.specs.Named.{name_in}
-use Rattle.site_runner.proofs.Results.{on_ok, on_refused, err_so, ok_so}
+use Rattle.site_runner.proofs.Results.{on_refused, ok_so, err_holds as err_so}
 use Rattle.site_runner.proofs.Lifts.{named_done, named_cut_off, no_site, no_site_cut, passes_there, taken_out, ready_there, swapped_back_is, ready_back, length_back}
 use Rattle.site_runner.proofs.execute.execute_named.Goals as goal
+use Rattle.repl_section.proofs.Results.{on_ok}
 
 -- where the search went, over the slots and by the command's name
 found_so : {D : Type 0} (name n : List ℕ) (slots xs : List (Slot D)) (o : Option ℕ) → n ≡ name → xs ≡ slots → o ≡ first_where (is_slot_named n) xs → first_where (is_slot_named name) slots ≡ o

@@ -4,13 +4,14 @@ use Rattle.site_defs.specs.Contents.{Contents}
 use Rattle.site_defs.specs.Stands.{IsSite}
 use Rattle.world_defs.specs.rows.Map.{MappedBy}
 use Rattle.site_runner.specs.Mapping.{MapsAt}
-use Rattle.site_runner.proofs.Ats.{on_not_done, on_failed, if_some}
+use Rattle.site_runner.proofs.Ats.{on_not_done, on_failed}
 use Rattle.site_runner.proofs.Results.{err_holds}
 use Rattle.site_runner.proofs.Written.{named, not_a_file}
 use Rattle.site_runner.proofs.Mapped.{there_done, there_faulted, there_damaged, there_cut}
 use Rattle.site_runner.specs.Ending.{down, down_after, is_done_at}
 use Rattle.site_runner.specs.declared.ending.Ended.{Ended}
 use Rattle.site_runner.proofs.mapping.map_there.Goals as goal
+use Rattle.site_store.proofs.Unwritten.{some_read as if_some}
 
 -- it tells no files, so no site stands there
 none_stands : (o : Option Files) → IfSome o (λ _. ⊥) → IfSome o (λ files. (c : Contents) → IsSite files c → ⊥)

@@ -1,8 +1,9 @@
 use Rattle.std.proofs.Common.{refl}
 use Rattle.site_runner.specs.Ending.{down, down_after}
-use Rattle.site_runner.proofs.Results.{on_ok, err_holds}
+use Rattle.site_runner.proofs.Results.{err_holds}
 use Rattle.site_runner.proofs.Printed.{typing_of, text_of, prints, print_cut}
 use Rattle.site_runner.proofs.printing.print_disk.Goals as goal
+use Rattle.repl_section.proofs.Results.{on_ok}
 
 pub returns-clause-done : goal.returns-clause-done
 returns-clause-done g c =

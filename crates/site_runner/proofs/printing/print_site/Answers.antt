@@ -2,10 +2,11 @@ use Rattle.std.proofs.Common.{refl}
 use Rattle.repl_section.specs.declared.reign.Reign.{Reign}
 use Rattle.site_store.specs.Owning.{disk_of}
 use Rattle.site_runner.specs.Ending.{primary, primary_after}
-use Rattle.site_runner.proofs.Results.{on_ok, err_holds}
+use Rattle.site_runner.proofs.Results.{err_holds}
 use Rattle.site_runner.proofs.Endings.{primary_still}
 use Rattle.site_runner.proofs.Printed.{typing_of, text_of, prints, print_cut}
 use Rattle.site_runner.proofs.printing.print_site.Goals as goal
+use Rattle.repl_section.proofs.Results.{on_ok}
 
 pub returns-clause-done : goal.returns-clause-done
 returns-clause-done g c =

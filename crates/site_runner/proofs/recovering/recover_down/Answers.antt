@@ -5,7 +5,7 @@ use Rattle.site_store.specs.Needing.{HaveFirstWithout}
 use Rattle.site_runner.specs.declared.refusing.Needing.TheVariants.{Opening}
 use Rattle.site_runner.specs.Refusing.{ToRecover, NeedsForward}
 use Rattle.site_runner.specs.Steps.{ExecutesAt, IsCutAt}
-use Rattle.site_runner.proofs.Ats.{on_not_done, on_failed, on_done, if_some}
+use Rattle.site_runner.proofs.Ats.{on_not_done, on_failed}
 use Rattle.site_runner.proofs.Results.{err_holds, on_err_of}
 use Rattle.site_runner.proofs.Refused.{refuses_so, cut_down_so}
 use Rattle.site_runner.proofs.Written.{named, not_a_file}
@@ -13,6 +13,8 @@ use Rattle.site_runner.proofs.Recovered.{recover_cut, recover_fault, recover_lim
 use Rattle.site_runner.specs.Ending.{down, down_after, is_done_at}
 use Rattle.site_runner.specs.declared.ending.Ended.{Ended}
 use Rattle.site_runner.proofs.recovering.recover_down.Goals as goal
+use Rattle.repl_section.proofs.Results.{if_ok as on_done}
+use Rattle.site_store.proofs.Unwritten.{some_read as if_some}
 
 pub returns-in_ok-write_numbered-in-Ok-clause-done : goal.returns-in_ok-write_numbered-in-Ok-clause-done
 returns-in_ok-write_numbered-in-Ok-clause-done g c =

@@ -9,7 +9,7 @@ use Rattle.site_runner.specs.Refusing.{ToRollBack, NeedsForward}
 use Rattle.site_runner.specs.declared.refusing.Needing.TheVariants.{Rollback}
 use Rattle.world_defs.specs.rows.Rollback as rows
 use Rattle.site_runner.specs.Steps.{ExecutesAt}
-use Rattle.site_runner.proofs.Ats.{on_not_done, on_failed, on_done, if_some}
+use Rattle.site_runner.proofs.Ats.{on_not_done, on_failed}
 use Rattle.site_runner.proofs.Results.{err_holds, on_err_of}
 use Rattle.site_runner.proofs.Written.{named, not_a_file}
 use Rattle.site_runner.proofs.Rolled.{rollback_cut, rollback_fault, rollback_limit, rollback_damaged, rollback_done}
@@ -17,6 +17,8 @@ use Rattle.site_runner.proofs.Refused.{refuses_so, cut_down_so}
 use Rattle.site_runner.specs.Ending.{down, down_after, is_done_at}
 use Rattle.site_runner.specs.declared.ending.Ended.{Ended}
 use Rattle.site_runner.proofs.rolling.roll_down.Goals as goal
+use Rattle.repl_section.proofs.Results.{if_ok as on_done}
+use Rattle.site_store.proofs.Unwritten.{some_read as if_some}
 
 pub returns-in_ok-write_rolled-in-Ok-clause-done : goal.returns-in_ok-write_rolled-in-Ok-clause-done
 returns-in_ok-write_rolled-in-Ok-clause-done g c =

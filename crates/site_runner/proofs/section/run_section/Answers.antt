@@ -18,12 +18,13 @@ use Rattle.site_runner.specs.declared.ending.Ended.TheVariants as ends
 use Rattle.site_runner.specs.Ending.{primary, failed}
 use Rattle.site_runner.specs.Sites.{reign_in}
 use Rattle.site_runner.proofs.Ats.{nothing_in}
-use Rattle.site_runner.proofs.Results.{on_ok, err_holds}
+use Rattle.site_runner.proofs.Results.{err_holds}
 use Rattle.site_runner.proofs.Stopped.{cut_here}
 use Rattle.site_runner.proofs.Endings.{written_leaves}
 use Rattle.site_runner.proofs.LeftOut.{all_decided, all_fail_at, all_fail_in, all_may_leave, left_same}
 use Rattle.site_runner.proofs.Ran.{decided_in, ran, ran_to_fault, left_after, run_cut, run_cut_any, decided_front, decided_behind}
 use Rattle.site_runner.proofs.section.run_section.Goals as goal
+use Rattle.repl_section.proofs.Results.{on_ok}
 
 pub returns-in-Ok-clause-left : goal.returns-in-Ok-clause-left
 returns-in-Ok-clause-left g c =

@@ -3,7 +3,7 @@ use Rattle.site_making.specs.Finding.{IsFoundIn, layout_in}
 use Rattle.site_making.specs.declared.finding.FoundSite.{FoundSite}
 use Rattle.world_defs.specs.rows.SetJournal as rows
 use Rattle.site_runner.specs.Steps.{ExecutesAt}
-use Rattle.site_runner.proofs.Ats.{on_not_done, on_failed, on_done}
+use Rattle.site_runner.proofs.Ats.{on_not_done, on_failed}
 use Rattle.site_runner.proofs.Results.{on_err_of, err_holds}
 use Rattle.site_runner.proofs.Written.{named, not_a_file}
 use Rattle.site_runner.proofs.Moded.{look_faulted, look_damaged, look_cut, sets_so, cut_so}
@@ -11,6 +11,7 @@ use Rattle.site_runner.proofs.Found.{found_again, none_found, nothing_there, bla
 use Rattle.site_runner.specs.Ending.{down, down_after, is_done_at}
 use Rattle.site_runner.specs.declared.ending.Ended.{Ended}
 use Rattle.site_runner.proofs.setting.set_down.Goals as goal
+use Rattle.repl_section.proofs.Results.{if_ok as on_done}
 
 pub set_found-requires-clause-found : goal.set_found-requires-clause-found
 set_found-requires-clause-found g c =

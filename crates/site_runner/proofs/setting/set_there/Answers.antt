@@ -1,13 +1,14 @@
 use Rattle.std.proofs.Common.{ap, ◌∙◌, Err, refl}
 use Rattle.world_defs.specs.rows.SetJournal.{SetBy}
 use Rattle.site_runner.specs.Setting.{SetsAt}
-use Rattle.site_runner.proofs.Ats.{on_not_done, on_failed, if_some}
+use Rattle.site_runner.proofs.Ats.{on_not_done, on_failed}
 use Rattle.site_runner.proofs.Results.{err_holds}
 use Rattle.site_runner.proofs.Written.{not_a_file}
 use Rattle.site_runner.proofs.Moded.{moded, there_done, there_faulted, there_damaged, there_cut}
 use Rattle.site_runner.specs.Ending.{down, down_after, is_done_at}
 use Rattle.site_runner.specs.declared.ending.Ended.{Ended}
 use Rattle.site_runner.proofs.setting.set_there.Goals as goal
+use Rattle.site_store.proofs.Unwritten.{some_read as if_some}
 
 pub returns-in_ok-write_mode-in-Ok-clause-done : goal.returns-in_ok-write_mode-in-Ok-clause-done
 returns-in_ok-write_mode-in-Ok-clause-done g c =

@@ -3,9 +3,9 @@ use Rattle.std.specs.Prelude.{Option}
 use Rattle.gvn_model.specs.declared.reign.Stamp.{Stamp}
 use Rattle.repl_section.specs.Reigns.{stamp_in}
 use Rattle.site_runner.specs.Sites.{reign_in}
-use Rattle.site_runner.proofs.Results.{on_ok}
 use Rattle.site_runner.proofs.Stopped.{state_written}
 use Rattle.site_runner.proofs.showing.write_state.Goals as goal
+use Rattle.repl_section.proofs.Results.{on_ok}
 
 pub returns : goal.returns
 returns g c =

@@ -3,11 +3,12 @@ use Rattle.world_defs.specs.rows.Start as rows
 use Rattle.site_store.specs.Owning.{disk_of, memory_of}
 use Rattle.site_store.proofs.Refused.{drawn_site}
 use Rattle.site_runner.specs.Ending.{down}
-use Rattle.site_runner.proofs.Ats.{on_not_done, if_some}
+use Rattle.site_runner.proofs.Ats.{on_not_done}
 use Rattle.site_runner.proofs.Results.{err_holds}
 use Rattle.site_runner.proofs.Started.{load_cut, opens_held, load_other, starts_so}
 use Rattle.site_runner.proofs.Stopped.{closed_leaves}
 use Rattle.site_runner.proofs.start.start.Goals as goal
+use Rattle.site_store.proofs.Unwritten.{some_read as if_some}
 
 pub returns-then-is_named-clause-left : goal.returns-then-is_named-clause-left
 returns-then-is_named-clause-left g c =

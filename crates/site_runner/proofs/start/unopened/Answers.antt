@@ -6,12 +6,14 @@ use Rattle.site_store.proofs.Refused.{limit_site}
 use Rattle.site_runner.specs.declared.refusing.Needing.TheVariants.{Opening}
 use Rattle.site_runner.specs.Ending.{down, down_after, is_done_at}
 use Rattle.site_runner.specs.Refusing.{ToStart, NeedsForward}
-use Rattle.site_runner.proofs.Ats.{on_not_done, on_failed, on_done, if_some}
+use Rattle.site_runner.proofs.Ats.{on_not_done, on_failed}
 use Rattle.site_runner.proofs.Results.{on_err_of, err_holds, ok_so}
 use Rattle.site_runner.proofs.Refused.{refuses_so, cut_down_so}
 use Rattle.site_runner.proofs.Started.{unopened_cut, load_faulted, load_limit, load_damaged}
 use Rattle.site_runner.proofs.Stopped.{closed_leaves}
 use Rattle.site_runner.proofs.start.unopened.Goals as goal
+use Rattle.repl_section.proofs.Results.{if_ok as on_done}
+use Rattle.site_store.proofs.Unwritten.{some_read as if_some}
 
 pub returns-in-GenLimit-clause-left : goal.returns-in-GenLimit-clause-left
 returns-in-GenLimit-clause-left g c = λ was f.

@@ -1,8 +1,8 @@
 use Rattle.std.proofs.Common.{◌++◌, ◌∙◌, ℕ, List, ap}
 use Rattle.std.specs.Fmt.{decimal}
-use Rattle.site_runner.proofs.Results.{on_ok}
 use Rattle.site_runner.proofs.Written.{reign_written}
 use Rattle.site_runner.proofs.text.write_reign.Goals as goal
+use Rattle.repl_section.proofs.Results.{on_ok}
 
 pub returns : goal.returns
 returns c =

@@ -3,9 +3,10 @@ use Rattle.repl_io.specs.Fault.{Rose}
 use Rattle.repl_script.specs.Commands.{command_value}
 use Rattle.site_runner.specs.declared.status.Status.{Status}
 use Rattle.site_runner.specs.Going.{Halts}
-use Rattle.site_runner.proofs.Results.{on_ok, on_err}
+use Rattle.site_runner.proofs.Results.{on_err}
 use Rattle.site_runner.proofs.Goings.{held, carried, broken, not_fed}
 use Rattle.site_runner.proofs.top.take_line.Goals as goal
+use Rattle.repl_section.proofs.Results.{on_ok}
 
 pub returns-in-Err-clause-halts : goal.returns-in-Err-clause-halts
 returns-in-Err-clause-halts g c =

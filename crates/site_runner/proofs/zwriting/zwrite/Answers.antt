@@ -9,10 +9,11 @@ use Rattle.site_runner.specs.declared.slot.Slot.TheVariants as slots
 use Rattle.site_runner.specs.declared.ending.Ended.TheVariants as ends
 use Rattle.site_runner.specs.Ending.{primary}
 use Rattle.site_runner.specs.Sites.{reign_in}
-use Rattle.site_runner.proofs.Results.{on_ok, err_holds}
+use Rattle.site_runner.proofs.Results.{err_holds}
 use Rattle.site_runner.proofs.Stopped.{zwrites_at, cut_same}
 use Rattle.site_runner.proofs.Endings.{written_leaves}
 use Rattle.site_runner.proofs.zwriting.zwrite.Goals as goal
+use Rattle.repl_section.proofs.Results.{on_ok}
 
 pub returns-clause-left : goal.returns-clause-left
 returns-clause-left g c =

@@ -2,10 +2,10 @@ use Rattle.std.proofs.Common.{◌≡◌, List, Vec, Global, length, map, sym, �
 use Rattle.journal_defs.specs.Instance.{regions}
 use Rattle.entry_index.specs.declared.placed.PlacedSign.{PlacedSign}
 use Rattle.region_opening.specs.Signs.{AllSay}
-use Rattle.site_files.proofs.Writing.{if_ok}
 use Rattle.site_store.specs.Standing.{found_signs}
 use Rattle.site_store.proofs.Without.{none_is, first_told}
 use Rattle.site_store.proofs.needing.first_needing.Goals as goal
+use Rattle.gated_file.proofs.Begins.{if_ok}
 
 pub first_without_images-requires : goal.first_without_images-requires
 first_without_images-requires c =

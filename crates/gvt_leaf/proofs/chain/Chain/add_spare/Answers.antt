@@ -2,9 +2,9 @@ use Rattle.std.proofs.Common.{◌≡◌, ◌+◌, ◌∷◌, ◌++◌, [], List,
 use Rattle.std.proofs.lemmas.List.{length-append}
 use Rattle.std.specs.List.{AllByRecursion}
 use Rattle.journal_defs.specs.Leaves.{Leaf}
-use Rattle.gvt_leaf.proofs.Links.{all_joined}
 use Rattle.gvt_leaf.proofs.Still.{same_chained}
 use Rattle.gvt_leaf.proofs.chain.Chain.add_spare.Goals as goal
+use Rattle.journal_laws.proofs.ImageSteps.{all_both as all_joined}
 
 pub invariant_of-self : goal.invariant_of-self
 invariant_of-self c =

@@ -3,8 +3,8 @@ use Rattle.std.specs.Prelude.{codes}
 use Rattle.world_defs.specs.Answers.{cause_text}
 use Rattle.site_runner.specs.Causes.{cause_value}
 use Rattle.site_runner.specs.declared.cause.Cause.{Cause}
-use Rattle.site_runner.proofs.Results.{on_ok}
 use Rattle.site_runner.proofs.cause.Cause.write.Goals as goal
+use Rattle.repl_section.proofs.Results.{on_ok}
 
 named : (o r n a t : List ℕ) → r ≡ n → a ≡ o ++ codes "NEEDFORWARD " → t ≡ a ++ r → t ≡ o ++ (codes "NEEDFORWARD " ++ n)
 named o r n a t e ea et = et ∙ ap (λ (x : List ℕ). x ++ r) ea ∙ ap (λ (x : List ℕ). (o ++ codes "NEEDFORWARD ") ++ x) e ∙ append_assoc o (codes "NEEDFORWARD ") n

@@ -1,6 +1,6 @@
 -- Fields one after the other, as one field.
-use Rattle.std.proofs.Common.{◌≡◌, ℕ, List, [], ◌∷◌, ◌++◌, ◌<◌, ◌^◌, Bool, Option, Some, None, ap, sym, ◌∙◌}
-use Rattle.std.specs.Int.{to_be_bytes, w32, w64}
+use Rattle.std.proofs.Common.{◌≡◌, ℕ, List, [], ◌∷◌, ◌++◌, ◌<◌, ◌^◌, Bool, length, Option, Some, None, ap, sym, ◌∙◌}
+use Rattle.std.specs.Int.{to_be_bytes, w16, w32, w64}
 use Rattle.global_defs.specs.Fields.{flag, short, IsSiteName}
 use Rattle.repl_fields.specs.Reading.{ReadsField}
 use Rattle.repl_fields.proofs.Pairs.{Both, both, none_first, none_second, some_both}
@@ -16,6 +16,9 @@ Reads f bytes read = ReadsField f.has f.spelled bytes read
 abbrev pub byte : Field ℕ
 byte = record { has = λ n. n < 2 ^ 8; spelled = λ n. n ∷ [] }
 
+abbrev pub half : Field ℕ
+half = record { has = λ n. n < 2 ^ 16; spelled = to_be_bytes w16 }
+
 abbrev pub word : Field ℕ
 word = record { has = λ n. n < 2 ^ 32; spelled = to_be_bytes w32 }
 
@@ -24,6 +27,9 @@ double = record { has = λ n. n < 2 ^ 64; spelled = to_be_bytes w64 }
 
 abbrev pub truth : Field Bool
 truth = record { has = λ b. Unit {0}; spelled = λ b. flag b ∷ [] }
+
+abbrev pub image : Field (List ℕ)
+image = record { has = λ s. length s ≡ 4096; spelled = λ s. s }
 
 -- the name of a site, a root or a region
 abbrev pub site : Field (List ℕ)
