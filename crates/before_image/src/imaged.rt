@@ -13,7 +13,7 @@ use std::alloc::Global;
 use std::marker::Model;
 
 /// How many bytes a block has on the file.
-const BLOCK: u64 = 4096;
+const BLOCK: u64 = global_defs::limits::BLOCK as u64;
 
 /// What images of blocks are logged to, as the records that wait for a region's journal.
 pub trait Log {

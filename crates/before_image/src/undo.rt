@@ -11,7 +11,7 @@ use std::alloc::Global;
 use std::marker::Model;
 
 /// How many bytes a block has on the file.
-const BLOCK: u64 = 4096;
+const BLOCK: u64 = global_defs::limits::BLOCK as u64;
 
 /// No image for each of so many blocks.
 fn no_images(alloc: Global, blocks: u32) -> Result<Vec<Option<Bytes>>, NoMemory>

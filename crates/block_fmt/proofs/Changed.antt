@@ -6,6 +6,7 @@ use Rattle.std.specs.List.{AllByRecursion}
 use Rattle.std.specs.Ordering.{nat_cmp}
 use Rattle.std.specs.Cmp.Lexicographic.{slice_cmp}
 use Rattle.std.specs.FinMap as globals
+use Rattle.global_defs.specs.declared.limits.TheConstants.{LONGEST_VALUE}
 use Rattle.journal_defs.specs.Leaves.{Cell, Leaf, cell_bytes, spelled_cell, IsCell, IsEncoded, IsLeaf, KeysRise}
 use Rattle.block_fmt.specs.Cells.{size_of, with_cells, with_cell, without_between, TakesPlace}
 use Rattle.block_fmt.specs.Read.{cells_in, places, moved, CanMove, AreCells}
@@ -26,7 +27,7 @@ few_held b l h =
 
 -- PUTTING
 
-pub put_form : (l : Leaf) (key value : List ℕ) (i j : ℕ) → IsLeaf l → TakesPlace l.cells key i j → IsEncoded key → length value ≤ 1500 → length (cell_bytes (with_cell l key value)) ≤ 4088 → IsLeaf (with_cell l key value)
+pub put_form : (l : Leaf) (key value : List ℕ) (i j : ℕ) → IsLeaf l → TakesPlace l.cells key i j → IsEncoded key → length value ≤ LONGEST_VALUE → length (cell_bytes (with_cell l key value)) ≤ 4088 → IsLeaf (with_cell l key value)
 put_form l key value i j form t named few fits =
     let is = t.put value in
     record {
@@ -219,7 +220,7 @@ module _ (b made : Inside) (l : Leaf) (h : Holds b l) (next : made.next ≡ b.ne
   room_kept = let bytes = h.byte_room in let cells = h.place_room in (omega (arith, bytes, byte_room), omega (arith, cells, place_room))
 
   pub put_holds : (key value : List ℕ) (i j from to size : ℕ) → TakesPlace l.cells key i j → from ≡ size_of (take i l.cells) → to ≡ size_of (take j l.cells) → size ≡ length key + length value + 3
-      → IsEncoded key → length value ≤ 1500 → length (cell_bytes (with_cell l key value)) ≤ 4088
+      → IsEncoded key → length value ≤ LONGEST_VALUE → length (cell_bytes (with_cell l key value)) ≤ 4088
       → made.bytes.items ≡ take from b.bytes.items ++ (spelled_cell (key, value) ++ drop to b.bytes.items)
       → made.places.items ≡ take i b.places.items ++ from ∷ map (moved to (from + size)) (drop j b.places.items) → Holds made (with_cell l key value)
   put_holds key value i j from to size t from_is to_is size_is named few fits bytes cells = record {

@@ -5,6 +5,7 @@ use Rattle.std.proofs.Math.Seq.{take-append_seam, drop-append_seam, drop-append-
 use Rattle.std.proofs.lemmas.Nat.{from_be_bytes-to_be_bytes_2, be_bytes_2}
 use Rattle.std.specs.Int.{from_be_bytes, to_be_bytes, w16}
 use Rattle.std.specs.List.{AllByRecursion}
+use Rattle.global_defs.specs.declared.limits.TheConstants.{LONGEST_VALUE}
 use Rattle.global_defs.specs.Fields.{short, long}
 use Rattle.journal_defs.specs.Leaves.{Cell, spelled_cell, IsCell}
 use Rattle.block_fmt.specs.Read.{first_cell, cells_in, BeginWithCell}
@@ -40,7 +41,7 @@ begins bytes h =
     let rest : drop (length (spelled_cell h.cell)) bytes ≡ h.rest = ap (drop (length (spelled_cell h.cell))) h.is ∙ drop-append_seam (spelled_cell h.cell) h.rest in
     h.is ∙ ap (λ (l : List ℕ). spelled_cell h.cell ++ l) (sym rest) ∙ ap (λ (c : Cell). spelled_cell c ++ drop (length (spelled_cell c)) bytes) (sym cell)
 
-pub first_short : (bytes : List ℕ) → BeginWithCell bytes → length (first_cell bytes).1 ≤ 1500
+pub first_short : (bytes : List ℕ) → BeginWithCell bytes → length (first_cell bytes).1 ≤ LONGEST_VALUE
 first_short bytes h =
     let few = h.short in
     let cell : first_cell bytes ≡ h.cell = ap first_cell h.is ∙ first_is h.cell h.rest (omega (arith, few)) in
@@ -148,7 +149,7 @@ parted b k n rest key value more key_size first value_size is =
     (λ i. size i ∷ all i) ∙ sym (spelled_behind (key, value) more)
 
 -- bytes with a key's length, the key, the value's length and the value begin with a cell
-pub makes_cell : (bytes : List ℕ) (k n : ℕ) → ((i : ℕ) → get_or bytes i 0 < 256) → k ≡ get_or bytes 0 0 → n ≡ from_be_bytes w16 (take 2 (drop (k + 1) bytes)) → n ≤ 1500 → k + 1 + 2 + n ≤ length bytes
+pub makes_cell : (bytes : List ℕ) (k n : ℕ) → ((i : ℕ) → get_or bytes i 0 < 256) → k ≡ get_or bytes 0 0 → n ≡ from_be_bytes w16 (take 2 (drop (k + 1) bytes)) → n ≤ LONGEST_VALUE → k + 1 + 2 + n ≤ length bytes
     → BeginWithCell bytes
 makes_cell [] k n small first number few inside = absurd (omega arith)
 makes_cell (b ∷ rest) k n small first number few inside =

@@ -5,6 +5,7 @@ use Rattle.std.specs.Ordering.{nat_cmp}
 use Rattle.std.specs.Cmp.Lexicographic.{slice_cmp}
 use Rattle.std.specs.Int.{from_be_bytes, w16}
 use Rattle.std.specs.List.{AllByRecursion, flat_map}
+use Rattle.global_defs.specs.declared.limits.TheConstants.{LONGEST_VALUE}
 use Rattle.journal_defs.specs.Leaves.{Cell, spelled_cell, IsCell, IsEncoded, KeysRise}
 
 -- the cell that these bytes begin with, where they begin with one
@@ -26,7 +27,7 @@ places at (c ∷ cs) = at ∷ places (at + length (spelled_cell c)) cs
 pub record BeginWithCell (bytes : List ℕ) : Type 0 where
   pub cell : Cell
   pub rest : List ℕ
-  pub short : length cell.1 ≤ 1500
+  pub short : length cell.1 ≤ LONGEST_VALUE
   pub is : bytes ≡ spelled_cell cell ++ rest
 
 -- At a place stands a cell with a key, which is past that of the cell at `last` unless it is the first.

@@ -3,6 +3,7 @@ ghost use Rattle.std.specs.Prelude.{◌≡◌, ◌≤◌, ◌<◌, ◌↔◌, �
 ghost use Rattle.std.specs.Ordering.{nat_cmp};
 ghost use Rattle.std.specs.Cmp.Lexicographic.{slice_cmp};
 ghost use Rattle.std.specs.FinMap as globals;
+ghost use Rattle.global_defs.specs.declared.limits.TheConstants.{LONGEST_VALUE};
 ghost use Rattle.journal_defs.specs.Leaves.{Leaf, cell_bytes, ROOM, spelled_leaf, IsEncoded, IsLeaf, IsBlock};
 ghost use Rattle.block_fmt.specs.Cells.{cell_at, with_cells, with_cell, without_between, size_of, StandsIn, BelongsAt, TakesPlace};
 ghost use Rattle.block_fmt.specs.Read.{cells_in, places, AreCells};
@@ -14,7 +15,8 @@ use crate::cells::{cut_between, key_at, put_between, value_at};
 use crate::error::BlockError;
 use crate::places::{cut_places, places_from, push_places, put_place};
 use crate::reading::read_places;
-use crate::sizes::{BLOCK, HEAD, MOST_CELLS, ROOM};
+use crate::sizes::{HEAD, MOST_CELLS, ROOM};
+use global_defs::limits::BLOCK;
 use gvn_key::NoMemory;
 use std::alloc::Global;
 use std::cmp::Ordering;
@@ -184,7 +186,7 @@ impl Block {
     pub fn put(&mut self, key: &[u8], value: &[u8]) -> Result<(), NoMemory>
         requires fits { length (cell_bytes (with_cell self.old key.now value.now)) ≤ ROOM }
         requires key { IsEncoded key.now }
-        requires value { length value.now ≤ 1500 }
+        requires value { length value.now ≤ LONGEST_VALUE }
         ensures done { IsOk result }
         ensures cells { self.new ≡ with_cell self.old key.now value.now }
     {
@@ -199,7 +201,7 @@ impl Block {
         requires place { IfErr place (BelongsAt self.old.cells key.now) }
         requires fits { length (cell_bytes (with_cell self.old key.now value.now)) ≤ ROOM }
         requires key { IsEncoded key.now }
-        requires value { length value.now ≤ 1500 }
+        requires value { length value.now ≤ LONGEST_VALUE }
         ensures { self.new ≡ with_cell self.old key.now value.now }
     {
         let (i, j) = self.taken(place, key);

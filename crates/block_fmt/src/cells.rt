@@ -1,5 +1,6 @@
 //! Cells as bytes, one behind another.
 ghost use Rattle.std.specs.Prelude.{◌≡◌, ◌≤◌, ◌+◌, ◌-◌, ◌++◌, length, take, drop, vec_len, vec_capacity};
+ghost use Rattle.global_defs.specs.declared.limits.TheConstants.{LONGEST_KEY, LONGEST_VALUE};
 ghost use Rattle.journal_defs.specs.Leaves.{spelled_cell};
 ghost use Rattle.block_fmt.specs.Read.{first_cell, written, BeginWithCell};
 
@@ -28,8 +29,8 @@ pub fn value_at(bytes: &[u8], at: usize) -> &[u8]
 
 /// Adds a cell's bytes.
 fn push_cell(bytes: &mut Vec<u8>, key: &[u8], value: &[u8])
-    requires key { length key.now ≤ 255 }
-    requires value { length value.now ≤ 1500 }
+    requires key { length key.now ≤ LONGEST_KEY }
+    requires value { length value.now ≤ LONGEST_VALUE }
     requires room { vec_len bytes.old + length (spelled_cell (key.now, value.now)) ≤ vec_capacity bytes.old }
     ensures items { bytes.new.items ≡ bytes.old.items ++ spelled_cell (key.now, value.now) }
     ensures capacity { vec_capacity bytes.old ≤ vec_capacity bytes.new }
@@ -42,8 +43,8 @@ fn push_cell(bytes: &mut Vec<u8>, key: &[u8], value: &[u8])
 
 /// Writes a cell over as many bytes at a place.
 fn put_over(bytes: &mut Vec<u8>, at: usize, key: &[u8], value: &[u8])
-    requires key { length key.now ≤ 255 }
-    requires value { length value.now ≤ 1500 }
+    requires key { length key.now ≤ LONGEST_KEY }
+    requires value { length value.now ≤ LONGEST_VALUE }
     requires inside { at + length (spelled_cell (key.now, value.now)) ≤ vec_len bytes.old }
     ensures items { bytes.new.items ≡ written bytes.old.items at (spelled_cell (key.now, value.now)) }
     ensures capacity { vec_capacity bytes.old ≤ vec_capacity bytes.new }
@@ -73,8 +74,8 @@ fn put_moving(bytes: &mut Vec<u8>, from: usize, to: usize, key: &[u8], value: &[
     requires order { from ≤ to }
     requires inside { to ≤ vec_len bytes.old }
     requires small { vec_len bytes.old ≤ 4088 }
-    requires key { length key.now ≤ 255 }
-    requires value { length value.now ≤ 1500 }
+    requires key { length key.now ≤ LONGEST_KEY }
+    requires value { length value.now ≤ LONGEST_VALUE }
     requires room { vec_len bytes.old + length (spelled_cell (key.now, value.now)) ≤ vec_capacity bytes.old + (to - from) }
     ensures items { bytes.new.items ≡ take from bytes.old.items ++ (spelled_cell (key.now, value.now) ++ drop to bytes.old.items) }
     ensures capacity { vec_capacity bytes.old ≤ vec_capacity bytes.new }
@@ -96,8 +97,8 @@ pub fn put_between(bytes: &mut Vec<u8>, from: usize, to: usize, key: &[u8], valu
     requires order { from ≤ to }
     requires inside { to ≤ vec_len bytes.old }
     requires small { vec_len bytes.old ≤ 4088 }
-    requires key { length key.now ≤ 255 }
-    requires value { length value.now ≤ 1500 }
+    requires key { length key.now ≤ LONGEST_KEY }
+    requires value { length value.now ≤ LONGEST_VALUE }
     requires room { vec_len bytes.old + length (spelled_cell (key.now, value.now)) ≤ vec_capacity bytes.old + (to - from) }
     ensures items { bytes.new.items ≡ take from bytes.old.items ++ (spelled_cell (key.now, value.now) ++ drop to bytes.old.items) }
     ensures capacity { vec_capacity bytes.old ≤ vec_capacity bytes.new }

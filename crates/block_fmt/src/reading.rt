@@ -7,7 +7,8 @@ ghost use Rattle.block_fmt.specs.Read.{first_cell, cells_in, places, BeginWithCe
 
 use crate::bytes::number_at;
 use crate::cells::key_at;
-use crate::sizes::{LONGEST_VALUE, MOST_CELLS};
+use crate::sizes::MOST_CELLS;
+use global_defs::limits::LONGEST_VALUE;
 use gvn_key::{NoMemory, Seen, first_key, next_key};
 use std::alloc::Global;
 

@@ -1,8 +1,5 @@
 //! How large a block and its parts are.
 
-/// How many bytes a block has on the file.
-pub const BLOCK: usize = 4096;
-
 /// Where the cells of a block begin.
 pub const HEAD: usize = 8;
 
@@ -11,6 +8,3 @@ pub const ROOM: usize = 4088;
 
 /// At most so many cells have room in a block: each has five bytes and more.
 pub const MOST_CELLS: usize = 817;
-
-/// The greatest length of a value.
-pub const LONGEST_VALUE: usize = 1500;

@@ -10,6 +10,7 @@ use Rattle.std.specs.declared.cmp.Ordering.TheVariants.{Less, Equal, Greater}
 use Rattle.std.specs.Ordering.{is_lt}
 use Rattle.std.specs.FinMap as globals
 use Rattle.std.specs.FinMap.Entries as lists
+use Rattle.global_defs.specs.declared.limits.TheConstants.{LONGEST_VALUE}
 use Rattle.global_defs.specs.Key.{Key, key_cmp}
 use Rattle.global_defs.specs.Valid.{is_key}
 use Rattle.global_defs.specs.Encoded.{encoded}
@@ -181,7 +182,7 @@ nodes_rise (e ∷ f ∷ es) p h =
 pub cells_rise : (g : Globals) → HaveKeys g → KeysRise (cells_of g)
 cells_rise g p = nodes_rise (globals.entries g) p (globals.entries_sorted g)
 
-forms_of : (es : Nodes) → AreKeys es → AllByRecursion (λ e. length e.1 ≤ 1500) es → AllByRecursion IsCell (cells_in es)
+forms_of : (es : Nodes) → AreKeys es → AllByRecursion (λ e. length e.1 ≤ LONGEST_VALUE) es → AllByRecursion IsCell (cells_in es)
 forms_of [] p q = tt
 forms_of (e ∷ es) p q = (((e.0, p.0, refl), q.0), forms_of es p.1 q.1)
 

@@ -5,8 +5,7 @@ use Rattle.std.proofs.lemmas.Bool.{cases_Bool}
 use Rattle.std.specs.List.{AllByRecursion, starts_with}
 use Rattle.std.specs.declared.cmp.Ordering.{Ordering}
 use Rattle.std.specs.declared.cmp.Ordering.TheVariants.{Less, Equal, Greater}
-use Rattle.std.specs.Ordering.{eq_by_cmp, is_eq, nat_cmp}
-use Rattle.std.specs.Cmp.Lexicographic.{slice_cmp}
+use Rattle.std.specs.Ordering.{eq_by_cmp, is_eq}
 use Rattle.std.specs.FinMap as globals
 use Rattle.std.specs.FinMap.Entries as lists
 use Rattle.global_defs.specs.Key.{Key, key_cmp}
@@ -20,6 +19,7 @@ use Rattle.journal_defs.specs.Leaves.{Cell, cells_of}
 use Rattle.block_laws.specs.Nodes.{HaveKeys}
 use Rattle.block_laws.specs.Cells.{changed}
 use Rattle.block_laws.proofs.Kept.{entries_kept, remove_is}
+use Rattle.global_defs.proofs.Basics.{bytes_cmp}
 
 -- nodes with their values
 abbrev Nodes : Type 0
@@ -32,10 +32,6 @@ cells_in es = map (λ e. (encoded e.0, e.1)) es
 -- each node has a key that there is
 abbrev AreKeys : Nodes → Type 0
 AreKeys es = AllByRecursion (λ e. IsTrue (is_key e.0)) es
-
--- the order of bytes
-abbrev bytes_cmp : List ℕ → List ℕ → Ordering
-bytes_cmp = slice_cmp nat_cmp
 
 moved : (o : Ordering) (a b c : Nodes) → cells_in (lists.by_order o a b c) ≡ lists.by_order o (cells_in a) (cells_in b) (cells_in c)
 moved Less a b c = refl

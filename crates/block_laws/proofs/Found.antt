@@ -7,6 +7,7 @@ use Rattle.std.specs.Ordering.{nat_cmp, is_lt}
 use Rattle.std.specs.Cmp.Lexicographic.{slice_cmp}
 use Rattle.std.specs.FinMap as globals
 use Rattle.std.specs.FinMap.Entries as lists
+use Rattle.global_defs.specs.declared.limits.TheConstants.{LONGEST_VALUE}
 use Rattle.global_defs.specs.Key.{Key, key_cmp}
 use Rattle.global_defs.specs.Valid.{is_key}
 use Rattle.global_defs.specs.Encoded.{encoded}
@@ -44,7 +45,7 @@ keys_back : (cs : List Cell) (all : AllByRecursion IsCell cs) → AllByRecursion
 keys_back [] all = tt
 keys_back (c ∷ cs) all = (all.0.0.1, keys_back cs all.1)
 
-values_back : (cs : List Cell) (all : AllByRecursion IsCell cs) → AllByRecursion (λ e. length e.1 ≤ 1500) (nodes_of cs all)
+values_back : (cs : List Cell) (all : AllByRecursion IsCell cs) → AllByRecursion (λ e. length e.1 ≤ LONGEST_VALUE) (nodes_of cs all)
 values_back [] all = tt
 values_back (c ∷ cs) all = (all.0.1, values_back cs all.1)
 
@@ -84,7 +85,7 @@ cells_formed blocks b (l ∷ m ∷ ls) h = all_both IsCell l.cells (flat_map (λ
 
 -- cells of their form with rising keys are those of some map
 pub cells_some : (cells : List Cell) → AllByRecursion IsCell cells → KeysRise cells → (g : Globals) × HaveKeys g × HaveShortValues g × (cells ≡ cells_of g)
-cells_some cells all rise = (g, subst (AllByRecursion (λ e. IsTrue (is_key e.0))) (sym is) (keys_back cells all), subst (AllByRecursion (λ e. length e.1 ≤ 1500)) (sym is) (values_back cells all), same)
+cells_some cells all rise = (g, subst (AllByRecursion (λ e. IsTrue (is_key e.0))) (sym is) (keys_back cells all), subst (AllByRecursion (λ e. length e.1 ≤ LONGEST_VALUE)) (sym is) (values_back cells all), same)
   where
     g : Globals
     g = globals.from_sorted (nodes_of cells all)

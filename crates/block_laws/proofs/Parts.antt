@@ -11,6 +11,7 @@ use Rattle.std.specs.List.{AllByRecursion}
 use Rattle.std.specs.Ordering.{eq_by_cmp}
 use Rattle.std.specs.FinMap as globals
 use Rattle.std.specs.FinMap.Entries as lists
+use Rattle.global_defs.specs.declared.limits.TheConstants.{LONGEST_VALUE}
 use Rattle.global_defs.specs.Key.{Key, key_cmp}
 use Rattle.global_defs.specs.Valid.{is_key}
 use Rattle.global_defs.specs.Fields.{IsUpdate, IsTransaction}
@@ -129,9 +130,9 @@ all_filter P p (x ∷ xs) all = elim (p x) as (λ b. AllByRecursion P (cond b (x
 
 -- a node with a key that there is, and a value that is not too long
 abbrev IsNode : Key × List ℕ → Type 0
-IsNode e = (IsTrue (is_key e.0)) × (length e.1 ≤ 1500)
+IsNode e = (IsTrue (is_key e.0)) × (length e.1 ≤ LONGEST_VALUE)
 
-put_nodes : (k : Key) (v : List ℕ) (es : List (Key × List ℕ)) → IsTrue (is_key k) → length v ≤ 1500 → AllByRecursion IsNode es → AllByRecursion IsNode (lists.put key_cmp k v es)
+put_nodes : (k : Key) (v : List ℕ) (es : List (Key × List ℕ)) → IsTrue (is_key k) → length v ≤ LONGEST_VALUE → AllByRecursion IsNode es → AllByRecursion IsNode (lists.put key_cmp k v es)
 put_nodes k v [] key few all = ((key, few), tt)
 put_nodes k v (e ∷ es) key few all =
     elim (key_cmp k e.0) as (λ o. AllByRecursion IsNode (lists.by_order o ((k, v) ∷ e ∷ es) ((e.0, v) ∷ es) (e ∷ lists.put key_cmp k v es))) [
@@ -182,7 +183,7 @@ pub keys : (ps : List Pattern) (r : ℕ) (seq : Sequence) → AllByRecursion (λ
 keys ps r seq forms = all_so IsNode (λ e. IsTrue (is_key e.0)) (globals.entries (region_state ps r seq)) (λ x h. h.0) (nodes ps r seq forms)
 
 pub values : (ps : List Pattern) (r : ℕ) (seq : Sequence) → AllByRecursion (λ e. IsTransaction e.transaction) seq → HaveShortValues (region_state ps r seq)
-values ps r seq forms = all_so IsNode (λ e. length e.1 ≤ 1500) (globals.entries (region_state ps r seq)) (λ x h. h.1) (nodes ps r seq forms)
+values ps r seq forms = all_so IsNode (λ e. length e.1 ≤ LONGEST_VALUE) (globals.entries (region_state ps r seq)) (λ x h. h.1) (nodes ps r seq forms)
 
 pub replay : (ps : List Pattern) (r n : ℕ) (seq : Sequence) → region_state ps r seq ≡ fold apply (region_state ps r (take n seq)) (updates_in ps r (updates_of (drop n seq)))
 replay ps r n seq =
@@ -233,5 +234,5 @@ step_keys g u form all = keys_step (λ e. IsTrue (is_key e.0)) g u (λ k v is es
     let f : IsUpdate (Set k v) = subst IsUpdate is form in put_all (λ e. IsTrue (is_key e.0)) k v es f.0 (λ e h. h) every) all
 
 pub step_values : (g : Globals) (u : Update) → IsUpdate u → HaveShortValues g → HaveShortValues (apply g u)
-step_values g u form all = keys_step (λ e. length e.1 ≤ 1500) g u (λ k v is es every.
-    let f : IsUpdate (Set k v) = subst IsUpdate is form in put_all (λ e. length e.1 ≤ 1500) k v es f.1 (λ e h. f.1) every) all
+step_values g u form all = keys_step (λ e. length e.1 ≤ LONGEST_VALUE) g u (λ k v is es every.
+    let f : IsUpdate (Set k v) = subst IsUpdate is form in put_all (λ e. length e.1 ≤ LONGEST_VALUE) k v es f.1 (λ e h. f.1) every) all

@@ -14,7 +14,7 @@ use std::alloc::Global;
 use std::marker::Model;
 
 /// How many bytes a block has on the file.
-const BLOCK: u64 = 4096;
+const BLOCK: u64 = global_defs::limits::BLOCK as u64;
 
 /// Writes a block's bytes at its place.
 fn write_block<D: Disk>(

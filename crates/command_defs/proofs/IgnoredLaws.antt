@@ -7,6 +7,7 @@ use Rattle.std.specs.declared.result.Result.{Result}
 use Rattle.std.specs.declared.result.Result.TheVariants.{Ok, Err}
 use Rattle.std.proofs.lemmas.Bool.{eqb-true}
 use Rattle.std.proofs.lemmas.Bool.Decides.{nat_tests}
+use Rattle.global_defs.specs.declared.limits.TheConstants.{LONGEST_LINE}
 use Rattle.global_defs.specs.Jobs.{Statement}
 use Rattle.script_defs.specs.Parts.{Fault, word_end, without_spaces}
 use Rattle.script_defs.specs.Statements.{statement_reading}
@@ -14,7 +15,7 @@ use Rattle.command_defs.specs.Commands.{Name, Command, Run, command_by, run_read
 use Rattle.command_defs.specs.Parts.{column, taken, ended, number_form, trimmed}
 use Rattle.command_defs.specs.Sections.{Section, is_open, is_full, transaction_begun, transaction_ended}
 use Rattle.command_defs.specs.Updaters.{UPDATERS}
-use Rattle.command_defs.specs.Script.{Position, Outside, Within, Skips, Wrong, ending, within, beginning, end_reading, stated, job_by, job_reading, reading_at, text_reading, line_reading, LONGEST_LINE}
+use Rattle.command_defs.specs.Script.{Position, Outside, Within, Skips, Wrong, ending, within, beginning, end_reading, stated, job_by, job_reading, reading_at, text_reading, line_reading}
 use Rattle.command_defs.specs.Spelling.{IsEnded, IsIgnored, empty, comment}
 use Rattle.command_defs.proofs.LineEnds.{trimmed_found, trimmed_only, trimmed_tight}
 use Rattle.command_defs.proofs.Joined.{tight_none, front_spaces, spaces_gone}

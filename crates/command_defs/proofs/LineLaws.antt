@@ -6,11 +6,12 @@ use Rattle.std.specs.declared.result.Result.TheVariants.{Ok, Err}
 use Rattle.std.proofs.lemmas.Slice.Eq.{bytes_eq-Decides}
 use Rattle.std.proofs.lemmas.Bool.{ne_eqb}
 use Rattle.std.proofs.lemmas.Bool.Decides.{nat_tests}
+use Rattle.global_defs.specs.declared.limits.TheConstants.{LONGEST_LINE}
 use Rattle.script_defs.specs.Parts.{word_end, without_spaces}
 use Rattle.command_defs.specs.Commands.{Name, Command, command_by, run_reading}
 use Rattle.command_defs.specs.Parts.{trimmed}
 use Rattle.command_defs.specs.Sections.{begun}
-use Rattle.command_defs.specs.Script.{Position, Outside, Within, Reading, Skips, Wrong, Goes, Ends, ending, beginning, reading_at, text_reading, line_reading, LONGEST_LINE}
+use Rattle.command_defs.specs.Script.{Position, Outside, Within, Reading, Skips, Wrong, Goes, Ends, ending, beginning, reading_at, text_reading, line_reading}
 use Rattle.command_defs.specs.Spelling.{IsEnded, Joins, IsLineOf, SpellsCommand, BeginsSection}
 use Rattle.command_defs.proofs.LineEnds.{trimmed_found, trimmed_only, trimmed_tight}
 use Rattle.command_defs.proofs.Joined.{IsTight, IsFronted, tight_drop, tight_without, fronted_without, front_spaces, spaces_gone, joins, joins_fronted, begins}

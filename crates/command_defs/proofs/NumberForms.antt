@@ -6,7 +6,7 @@ use Rattle.std.specs.Char.{is_ascii_digit}
 use Rattle.std.specs.Fmt.{decimal}
 use Rattle.std.specs.Str.{bytes_eq}
 use Rattle.std.specs.Str.Parse.{AllDigits, digits_value}
-use Rattle.std.proofs.lemmas.Str.Parse.{IsNumeralModel, numerals_by_value, tells_digits, digit_from_value}
+use Rattle.std.proofs.lemmas.Str.Parse.{digit_from_value}
 use Rattle.std.proofs.lemmas.Fmt.{decimal_digit, first_decimal, decimal-digits_value, digits_value-decimal, digits_decimal, decimal_nonempty}
 use Rattle.std.proofs.lemmas.Slice.Eq.{bytes_eq-Decides}
 use Rattle.std.proofs.lemmas.Bool.{and_parts, and_from, cases_Bool}
@@ -14,9 +14,7 @@ use Rattle.std.proofs.lemmas.Bool.Decides.{nat_tests}
 use Rattle.global_defs.specs.Numeral.{is_whole}
 use Rattle.global_defs.proofs.Digits.{are_digits}
 use Rattle.command_defs.specs.Parts.{is_digits, number_from, number_form}
-
-own : IsNumeralModel (AllDigits 10) (digits_value 10)
-own = numerals_by_value (AllDigits 10) tells_digits
+use Rattle.global_defs.proofs.Basics.{numeral_by_value}
 
 -- digits without a leading zero
 record Digits (text : List ℕ) : Type 0 where
@@ -62,7 +60,7 @@ pub number_found : (least most : ℕ) (text : List ℕ) (n : ℕ) → most < 2 ^
 number_found least most text n small e =
     let f = from_found least most (digits_value 10 text) text n e in
     let d = digits_of text f.0 in
-    let same : text ≡ decimal (digits_value 10 text) = sym (decimal-digits_value own text d.digits d.some d.lead (omega (arith, f.2))) in
+    let same : text ≡ decimal (digits_value 10 text) = sym (decimal-digits_value numeral_by_value text d.digits d.some d.lead (omega (arith, f.2))) in
     (same ∙ ap decimal f.3, omega (arith, f.1, f.3), omega (arith, f.2, f.3))
 
 all_ascii : (ds : List ℕ) → AllDigits 10 ds → list_all is_ascii_digit ds ≡ true
@@ -72,7 +70,7 @@ all_ascii (d ∷ ds) h = let b = digit_from_value d h.0 in let below = all_ascii
 decimal_whole : (n : ℕ) → 0 < n → n < 2 ^ 64 → is_whole (decimal n) ≡ true
 decimal_whole n some small =
     let first = first_decimal n some small in
-    let all = all_ascii (decimal n) (digits_decimal own n small) in
+    let all = all_ascii (decimal n) (digits_decimal numeral_by_value n small) in
     let long = decimal_nonempty n small in
     and_from (list_all is_ascii_digit (decimal n) && not (length (decimal n) == 0)) (not (get_or (decimal n) 0 0 == 48))
     (and_from (list_all is_ascii_digit (decimal n)) (not (length (decimal n) == 0)) all (grind (arith, nat_tests))) (grind (arith, nat_tests))
@@ -84,11 +82,11 @@ decimal_digits (suc n) small = rw (decimal_whole (suc n) (omega arith) small) re
 -- a number's digits are read as it
 pub number_read : (least most n : ℕ) → most < 2 ^ 64 → least ≤ n → n ≤ most → number_form least most (decimal n) ≡ Some n
 number_read least most n small low high =
-    let value = digits_value-decimal own n (omega arith) in
+    let value = digits_value-decimal numeral_by_value n (omega arith) in
     let digits = decimal_digits n (omega arith) in
     ap (λ (k : ℕ). number_from least most k (decimal n)) value
     ∙ rw digits (let l : nat_le least n ≡ true = grind (arith, nat_tests) in let m : nat_le n most ≡ true = grind (arith, nat_tests) in rw (l, m) refl)
 
 -- a number's digits
 pub digits_known : (n : ℕ) → n < 2 ^ 64 → AllDigits 10 (decimal n) × (0 < length (decimal n))
-digits_known n small = (digits_decimal own n small, decimal_nonempty n small)
+digits_known n small = (digits_decimal numeral_by_value n small, decimal_nonempty n small)

@@ -9,10 +9,12 @@ use Rattle.std.proofs.lemmas.Slice.Eq.{bytes_eq-Decides}
 use Rattle.std.proofs.lemmas.Bool.{and_parts, and_from, not-true}
 use Rattle.std.proofs.lemmas.List.{length-map}
 use Rattle.std.proofs.lemmas.List.Folds.{list_all-map}
+use Rattle.global_defs.specs.declared.limits.TheConstants.{MOST_CALLS, MOST_REGIONS}
 use Rattle.global_defs.specs.Key.{Key}
+use Rattle.global_defs.specs.Region.{Region}
 use Rattle.gvn_key.specs.KeyText.{key_reading}
 use Rattle.script_defs.specs.Parts.{word_end}
-use Rattle.command_defs.specs.Commands.{IsFormed, IsWhole, Name, Region, Command, Create, Attach, Map, SetJournal, StartPrimary, Stop, Epoch, Resync, Fuse, Crash, Extract, Zwrite, Show, Print, region_word, region_form, MOST_CALLS, MOST_PICK, MOST_NUMBER, MOST_GENERATION, MOST_REGIONS, regions_behind, regions_reading, create_reading, attach_reading, map_reading, set_reading, recover_by, extract_reading, zwrite_reading, command_by, run_reading, AreRegions, IsPattern, IsOrder, create, attach, map_to, set_journal, start, stop, epoch, resync, recover_backward, recover_forward, fuse, crash, extract, extract_from, zwrite, zwrite_from, show, print}
+use Rattle.command_defs.specs.Commands.{IsFormed, IsWhole, Name, Command, Create, Attach, Map, SetJournal, StartPrimary, Stop, Epoch, Resync, Fuse, Crash, Extract, Zwrite, Show, Print, region_word, region_form, MOST_PICK, MOST_NUMBER, MOST_GENERATION, regions_behind, regions_reading, create_reading, attach_reading, map_reading, set_reading, recover_by, extract_reading, zwrite_reading, command_by, run_reading, AreRegions, IsPattern, IsOrder, create, attach, map_to, set_journal, start, stop, epoch, resync, recover_backward, recover_forward, fuse, crash, extract, extract_from, zwrite, zwrite_from, show, print}
 use Rattle.command_defs.specs.Parts.{followed, taken, taken_if_any, ended, word_form, is_name, name_form, pattern_form, number_form, node_form, file_word, file_form, mode_word, mode_form, way_form}
 use Rattle.command_defs.specs.Spelling.{Joins}
 use Rattle.command_defs.proofs.Joined.{IsTight, IsFronted, begins}

@@ -5,8 +5,10 @@ use Rattle.std.specs.Str.{bytes_eq}
 use Rattle.std.specs.declared.result.Result.TheVariants.{Ok, Err}
 use Rattle.std.proofs.lemmas.List.Folds.{list_all-append}
 use Rattle.std.proofs.lemmas.Bool.{and_from, cond-true, cond-false}
+use Rattle.global_defs.specs.declared.limits.TheConstants.{MOST_REGIONS}
+use Rattle.global_defs.specs.Region.{Region}
 use Rattle.script_defs.specs.Parts.{word_end}
-use Rattle.command_defs.specs.Commands.{Region, region_form, MOST_REGIONS, regions_behind, regions_reading}
+use Rattle.command_defs.specs.Commands.{region_form, regions_behind, regions_reading}
 use Rattle.command_defs.specs.Parts.{column, followed, taken, ended, is_name}
 use Rattle.command_defs.proofs.Regions.{names_of, distinct_one, regions_more}
 use Rattle.command_defs.proofs.Taken.{followed_found, taken_form, ended_found}

@@ -6,8 +6,9 @@ use Rattle.std.specs.declared.result.Result.TheVariants.{Ok}
 use Rattle.std.proofs.lemmas.Bool.{and_parts, and_from, not-true, cond-false}
 use Rattle.std.proofs.lemmas.List.{append-nil, append_assoc}
 use Rattle.std.proofs.lemmas.Bool.Decides.{nat_tests}
+use Rattle.global_defs.specs.Region.{Region}
 use Rattle.script_defs.specs.Parts.{word_end}
-use Rattle.command_defs.specs.Commands.{Region, region_named, region_word, region_form, regions_behind}
+use Rattle.command_defs.specs.Commands.{region_named, region_word, region_form, regions_behind}
 use Rattle.command_defs.specs.Parts.{followed, taken, is_name}
 use Rattle.command_defs.specs.Spelling.{Joins}
 use Rattle.command_defs.proofs.Joined.{IsTight, IsFronted, begins, begins_none}

@@ -10,7 +10,8 @@ use Rattle.std.proofs.lemmas.List.{map-append, take-append-drop}
 use Rattle.std.proofs.lemmas.List.Folds.{list_all-append}
 use Rattle.std.proofs.lemmas.Bool.{and_parts, and_from, or_parts, or_from, cases_Bool}
 use Rattle.std.proofs.Math.Seq.{take-append_seam, drop-append_seam}
-use Rattle.command_defs.specs.Commands.{Name, Region, NO_IMAGES, ends_so, region_named, region_word}
+use Rattle.global_defs.specs.Region.{Region}
+use Rattle.command_defs.specs.Commands.{Name, NO_IMAGES, ends_so, region_named, region_word}
 use Rattle.command_defs.specs.Parts.{is_lettered, is_name, LONGEST_NAME}
 
 abbrev pub names_of : List Region → List Name

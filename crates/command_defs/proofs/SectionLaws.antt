@@ -11,6 +11,7 @@ use Rattle.std.proofs.lemmas.Slice.Eq.{bytes_eq-Decides}
 use Rattle.std.proofs.lemmas.Str.Parse.{digit_from_value}
 use Rattle.std.proofs.lemmas.Bool.{cases_Bool, ne_eqb}
 use Rattle.std.proofs.lemmas.Bool.Decides.{nat_tests}
+use Rattle.global_defs.specs.declared.limits.TheConstants.{LONGEST_LINE, MOST_STATEMENTS, MOST_UPDATES, MOST_UPDATERS}
 use Rattle.global_defs.specs.Jobs.{Statement}
 use Rattle.script_defs.specs.Parts.{Fault, part_end, word_end, without_spaces}
 use Rattle.script_defs.specs.Statements.{statement_reading, operand_reading, SpellsStatement, IsOperand, set, kill, zkill, incr, get, defined, order, check_is, check_at_least}
@@ -19,8 +20,8 @@ use Rattle.script_defs.proofs.StatementsRead.{statement_read}
 use Rattle.command_defs.specs.Commands.{Command, Run}
 use Rattle.command_defs.specs.Parts.{column, formed, taken, ended, number_form, trimmed}
 use Rattle.command_defs.specs.Sections.{Section, is_open, is_full, is_full_job, is_update_word, jobs_of, last_job, transaction_begun, transaction_ended, with_statement}
-use Rattle.command_defs.specs.Updaters.{UPDATERS, MOST_STATEMENTS, MOST_UPDATES, is_update}
-use Rattle.command_defs.specs.Script.{Position, Within, Reading, Wrong, Goes, Ends, ending, within, end_reading, stated, job_by, job_reading, section_reading, text_reading, line_reading, LONGEST_LINE}
+use Rattle.command_defs.specs.Updaters.{UPDATERS, is_update}
+use Rattle.command_defs.specs.Script.{Position, Within, Reading, Wrong, Goes, Ends, ending, within, end_reading, stated, job_by, job_reading, section_reading, text_reading, line_reading}
 use Rattle.command_defs.specs.Spelling.{IsEnded, IsPart, stops_quoted, Joins, IsLineOf, IsStatementLine, HasRoom, Continues, begins, commits, states, EndsSection}
 use Rattle.command_defs.proofs.LineEnds.{trimmed_found, trimmed_only}
 use Rattle.command_defs.proofs.Joined as joined
@@ -191,17 +192,17 @@ digits_end (d ∷ ds) h =
     let below = digits_end ds h.1 in
     (rw (ne_eqb d 32 (λ e. omega (arith, e, b)), ne_eqb d 34 (λ e. omega (arith, e, b))) (ap suc below.0), rw (ne_eqb d 34 (λ e. omega (arith, e, b))) below.1)
 
-decimal_part : (u : ℕ) → u ≤ 64 → IsPart (decimal u) × (stops_quoted false (decimal u) ≡ false)
+decimal_part : (u : ℕ) → u ≤ MOST_UPDATERS → IsPart (decimal u) × (stops_quoted false (decimal u) ≡ false)
 decimal_part u high = let k = digits_known u (omega arith) in let d = digits_end (decimal u) k.0 in ((k.1, d.0), d.1)
 
 head_of : (ds : List ℕ) → AllDigits 10 ds → 0 < length ds → (b : ℕ) × (bs : List ℕ) × (ds ≡ b ∷ bs) × (48 ≤ b) × (b ≤ 57)
 head_of [] h some = absurd (omega arith)
 head_of (d ∷ ds) h some = let b = digit_from_value d h.0 in (d, ds, refl, b.0, b.1)
 
-decimal_head : (u : ℕ) → u ≤ 64 → (b : ℕ) × (bs : List ℕ) × (decimal u ≡ b ∷ bs) × (48 ≤ b) × (b ≤ 57)
+decimal_head : (u : ℕ) → u ≤ MOST_UPDATERS → (b : ℕ) × (bs : List ℕ) × (decimal u ≡ b ∷ bs) × (48 ≤ b) × (b ≤ 57)
 decimal_head u high = let k = digits_known u (omega arith) in head_of (decimal u) k.0 k.1
 
-not_end : (u : ℕ) → u ≤ 64 → bytes_eq (decimal u) (codes "END") ≡ false
+not_end : (u : ℕ) → u ≤ MOST_UPDATERS → bytes_eq (decimal u) (codes "END") ≡ false
 not_end u high = elim (cases_Bool (bytes_eq (decimal u) (codes "END"))) [
   | inl h ↦ absurd (let e : decimal u ≡ codes "END" = (bytes_eq-Decides (decimal u) (codes "END")).0 h in let d = decimal_head u high in let f : d.0 ≡ 69 = cc (sym d.2 ∙ e) in omega (arith, f, d.4))
   | inr h ↦ h

@@ -7,6 +7,7 @@ use Rattle.std.proofs.Math.Seq.{drop-length}
 use Rattle.std.proofs.lemmas.List.Sums.{sum_by-cons, sum_by-append}
 use Rattle.std.proofs.lemmas.List.Folds.{list_all-append}
 use Rattle.std.proofs.lemmas.Bool.Decides.{eqb_tells, nat_tests}
+use Rattle.global_defs.specs.declared.limits.TheConstants.{MOST_UPDATERS}
 use Rattle.global_defs.specs.Jobs.{Statement, Job}
 use Rattle.global_defs.specs.Serial.{without_next}
 use Rattle.command_defs.specs.Commands.{Name, Run, IsFormed, UsesUp}
@@ -15,7 +16,7 @@ use Rattle.command_defs.specs.Updaters.{UPDATERS, is_updater, is_of_size}
 use Rattle.command_defs.specs.Sections.{Section, begun, jobs_of, last_job, longer, with_job, transaction_begun, transaction_ended, count_in, IsSound}
 
 -- who is an updater
-pub updater_range : (u : ℕ) → is_updater u ≡ true → (1 ≤ u) × (u ≤ 64)
+pub updater_range : (u : ℕ) → is_updater u ≡ true → (1 ≤ u) × (u ≤ MOST_UPDATERS)
 updater_range u h = grind (arith, nat_tests)
 
 -- a property at each place of a list of which one place is changed

@@ -5,10 +5,12 @@ use Rattle.std.specs.Fmt.{decimal}
 use Rattle.std.specs.Str.{bytes_eq}
 use Rattle.std.specs.declared.result.Result.{Result}
 use Rattle.std.specs.declared.result.Result.TheVariants.{Ok, Err}
+use Rattle.global_defs.specs.declared.limits.TheConstants.{MOST_CALLS, MOST_REGIONS, NUMBERS_END, MOST_GENERATIONS}
 use Rattle.global_defs.specs.Jobs.{Job}
 use Rattle.global_defs.specs.Key.{Key}
 use Rattle.global_defs.specs.Pattern.{is_global_name, is_pattern}
 use Rattle.global_defs.specs.Serial.{without_next}
+use Rattle.global_defs.specs.Region.{Region}
 use Rattle.gvn_key.specs.KeyText.{key_reading}
 use Rattle.command_defs.specs.Parts.{column, followed, taken, taken_if_any, ended, word_form, is_name, name_form, pattern_form, number_form, node_form, file_word, file_form, mode_word, mode_form, way_form}
 use Rattle.command_defs.specs.Updaters.{UPDATERS, is_updater, is_of_size}
@@ -16,11 +18,6 @@ use Rattle.command_defs.specs.Updaters.{UPDATERS, is_updater, is_of_size}
 -- of a site or a region
 abbrev pub Name : Type 0
 Name = List ℕ
-
--- of a site; its journal has before-images or not (GT.M: MUPIP SET -JOURNAL=[NO]BEFORE_IMAGES)
-pub record Region : Type 0 where
-  pub name : Name
-  pub before : Bool
 
 abbrev pub with_images : Name → Region
 with_images name = record { name = name; before = true }
@@ -60,23 +57,15 @@ pub data Command : Type 0 where
 
 -- The forms of the commands that are one line, and of a section's first line.
 
--- the greatest numbers in FUSE, in CRASH, and in EXTRACT and ROLLBACK
-abbrev pub MOST_CALLS : ℕ
-MOST_CALLS = 1000000
-
 abbrev pub MOST_PICK : ℕ
 MOST_PICK = 2 ^ 32 - 1
 
 abbrev pub MOST_NUMBER : ℕ
-MOST_NUMBER = 2 ^ 40
+MOST_NUMBER = NUMBERS_END
 
 -- the greatest generation of a file
 abbrev pub MOST_GENERATION : ℕ
-MOST_GENERATION = 65535
-
--- how many regions a site may have
-abbrev pub MOST_REGIONS : ℕ
-MOST_REGIONS = 8
+MOST_GENERATION = MOST_GENERATIONS
 
 -- what stands behind the name of a region whose journal has no before-images
 abbrev pub NO_IMAGES : List ℕ

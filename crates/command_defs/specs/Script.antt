@@ -4,6 +4,7 @@ use Rattle.std.specs.List.{list_any}
 use Rattle.std.specs.Str.{bytes_eq}
 use Rattle.std.specs.declared.result.Result.{Result}
 use Rattle.std.specs.declared.result.Result.TheVariants.{Ok, Err}
+use Rattle.global_defs.specs.declared.limits.TheConstants.{LONGEST_LINE, MOST_LINES}
 use Rattle.global_defs.specs.Jobs.{Statement}
 use Rattle.gvn_key.specs.ZwrText.{told}
 use Rattle.script_defs.specs.Parts.{Fault, word_end, without_spaces}
@@ -82,10 +83,6 @@ abbrev pub text_reading : Position → ℕ → List ℕ → Reading
 text_reading position len [] = Skips
 text_reading position len (b ∷ bs) = if b == 59 then Skips else reading_at position len (b ∷ bs)
 
--- the greatest length of a line
-abbrev pub LONGEST_LINE : ℕ
-LONGEST_LINE = 4096
-
 -- a line without its line feed
 abbrev pub line_reading : Position → List ℕ → Reading
 line_reading position line = if nat_lt LONGEST_LINE (length line) then Wrong (LONGEST_LINE + 1)
@@ -110,10 +107,6 @@ then_line (Some l) line = gone_on l (line_reading l.position line)
 -- nothing where a line is bad
 abbrev pub lines_reading : List (List ℕ) → Option Lines
 lines_reading lines = fold then_line (Some (record { commands = []; position = Outside })) lines
-
--- how many lines a script may have
-abbrev pub MOST_LINES : ℕ
-MOST_LINES = 100000
 
 -- a script: each line is in the grammar, no section is open, and the lines aren't too many
 pub record IsScript (lines : List (List ℕ)) : Type 0 where

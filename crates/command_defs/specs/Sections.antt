@@ -2,10 +2,11 @@
 use Rattle.std.specs.Prelude.{◌≡◌, ◌<◌, ℕ, ◌+◌, ◌-◌, ◌&&◌, ◌||◌, ◌==◌, Bool, true, false, List, [], ◌∷◌, ◌++◌, length, replicate, nat_le, get_or, set, count_by, codes, if◌then◌else◌}
 use Rattle.std.specs.List.{list_all}
 use Rattle.std.specs.Str.{bytes_eq}
+use Rattle.global_defs.specs.declared.limits.TheConstants.{MOST_STATEMENTS, MOST_UPDATES}
 use Rattle.global_defs.specs.Jobs.{Statement, Job}
 use Rattle.command_defs.specs.Commands.{Name}
 use Rattle.command_defs.specs.Parts.{is_name}
-use Rattle.command_defs.specs.Updaters.{UPDATERS, MOST_STATEMENTS, MOST_UPDATES, is_update, is_updater, is_of_size}
+use Rattle.command_defs.specs.Updaters.{UPDATERS, is_update, is_updater, is_of_size}
 
 -- A section that isn't ended: updater u's part of it is at place u - 1. The last job of an updater whose transaction is open isn't whole.
 pub record Section : Type 0 where

@@ -2,14 +2,14 @@
 use Rattle.std.specs.Prelude.{◌≡◌, ◌≢◌, ◌<◌, ◌≤◌, ℕ, ◌==◌, not, Bool, true, false, List, [], ◌∷◌, ◌++◌, length, replicate, count_by, codes, if◌then◌else◌}
 use Rattle.std.specs.List.{list_any}
 use Rattle.std.specs.Fmt.{decimal}
+use Rattle.global_defs.specs.declared.limits.TheConstants.{LONGEST_LINE, MOST_STATEMENTS, MOST_UPDATES}
 use Rattle.global_defs.specs.Jobs.{Statement}
 use Rattle.script_defs.specs.Parts.{word_end}
 use Rattle.script_defs.specs.Statements.{SpellsStatement}
 use Rattle.command_defs.specs.Commands.{Name, Command, IsOrder}
 use Rattle.command_defs.specs.Parts.{is_name}
 use Rattle.command_defs.specs.Sections.{Section, is_open, jobs_of, last_job, transaction_begun, transaction_ended, with_statement}
-use Rattle.command_defs.specs.Updaters.{UPDATERS, MOST_STATEMENTS, MOST_UPDATES, is_update}
-use Rattle.command_defs.specs.Script.{LONGEST_LINE}
+use Rattle.command_defs.specs.Updaters.{UPDATERS, is_update}
 
 -- A line, and its text without what is ignored at its end: spaces, at most one carriage return, and again spaces.
 pub data IsEnded : (text line : List ℕ) → Type 0 where

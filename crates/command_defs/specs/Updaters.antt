@@ -1,16 +1,10 @@
 -- The updaters of a section, and the limits of their jobs.
 use Rattle.std.specs.Prelude.{ℕ, ◌&&◌, Bool, true, false, length, nat_le, count_by}
+use Rattle.global_defs.specs.declared.limits.TheConstants.{MOST_STATEMENTS, MOST_UPDATES, MOST_UPDATERS}
 use Rattle.global_defs.specs.Jobs.{Statement, Set, Kill, ZKill, Incr, Job}
 
 abbrev pub UPDATERS : ℕ
-UPDATERS = 64
-
--- how many statements a transaction may have, and how many of them may be updates
-abbrev pub MOST_STATEMENTS : ℕ
-MOST_STATEMENTS = 1024
-
-abbrev pub MOST_UPDATES : ℕ
-MOST_UPDATES = 256
+UPDATERS = MOST_UPDATERS
 
 abbrev pub is_update : Statement → Bool
 is_update (Set key value) = true

@@ -7,6 +7,7 @@ use Rattle.std.proofs.lemmas.Nat.{from_be_bytes-to_be_bytes_4}
 use Rattle.std.specs.Option.{option_map}
 use Rattle.std.specs.Int.{from_be_bytes, to_be_bytes, w32}
 use Rattle.std.specs.List.{AllByRecursion}
+use Rattle.global_defs.specs.declared.limits.TheConstants.{LONGEST_BODY}
 use Rattle.disk_defs.specs.Gates.{Body, Open, NoGate, fits, behind_length, behind, bodies_from, bodies_within, records, framed, spelled, spelled_with, IsBody, Stands}
 
 pub length-framed : (body : Body) → length (framed body) ≡ 4 + length body
@@ -15,7 +16,7 @@ length-framed body = length-append (to_be_bytes w32 (length body)) body
 pub behind_is : (xs : List ℕ) (n : ℕ) → from_be_bytes w32 (take 4 xs) ≡ n → fits n xs ≡ true → behind xs ≡ Open (take n (drop 4 xs)) (drop (4 + n) xs)
 behind_is xs n is ok = ap (λ (m : ℕ). behind_length m xs) is ∙ ap (λ (b : Bool). cond b (Open (take n (drop 4 xs)) (drop (4 + n) xs)) NoGate) ok
 
-pub fits_is : (n : ℕ) (xs : List ℕ) → 1 ≤ n → n ≤ 1048576 → n + 5 ≤ length xs → fits n xs ≡ true
+pub fits_is : (n : ℕ) (xs : List ℕ) → 1 ≤ n → n ≤ LONGEST_BODY → n + 5 ≤ length xs → fits n xs ≡ true
 fits_is n xs low high next = grind (arith, nat_tests)
 
 pub behind_framed : (body : Body) (rest : List ℕ) → IsBody body → 1 ≤ length rest → behind (framed body ++ rest) ≡ Open body rest

@@ -3,7 +3,8 @@
 -- The model of this project. A file is a list of bytes. A crash leaves any bytes in each range that was written since the
 -- file's last sync that succeeded, and any end between the synced and the written one; all else stays. Clauses speak of
 -- each moment since a call began, so a crash within a call is covered by the clause of that call.
-use Rattle.std.specs.Prelude.{◌≡◌, ◌≢◌, ◌⊎◌, ℕ, ◌+◌, ◌-◌, ◌≤◌, ◌^◌, min, max, Bool, List, ◌++◌, length, take, drop, Option, Some, None, IfSome, IsSome, IsSomeAnd, IsTrue, Result, OnErr}
+use Rattle.std.specs.Prelude.{◌≡◌, ◌≢◌, ◌⊎◌, ℕ, ◌+◌, ◌≤◌, max, Bool, List, ◌++◌, length, take, drop, Option, Some, None, IfSome, IsSome, IsSomeAnd, IsTrue}
+pub use Rattle.global_defs.specs.Counts.{Rose, HasCause}
 
 -- the bytes of each file, by its number; a file that was never written has none
 abbrev pub Files : Type 0
@@ -76,15 +77,6 @@ pub record AtEachMoment (old new : View) (P : Files → Type 0) : Type 0 where
   pub each : (c : Files) → new.since old.moment c → P c
   -- for a run that began earlier
   pub before : (t : ℕ) (c : Files) → t ≤ old.moment → new.since t c → old.since t c ⊎ P c
-
--- a count has risen, where one that stands at its last value is taken as risen
-abbrev pub Rose : ℕ → ℕ → Type 0
-Rose before now = min (before + 1) (2 ^ 64 - 1) ≤ now
-
--- a count doesn't fall, and a failure comes only where it rose
-pub record HasCause {T E : Type 0} (before now : ℕ) (result : Result T E) : Type 0 where
-  pub later : before ≤ now
-  pub failed : OnErr result (Rose before now)
 
 -- the count doesn't fall, and the call fails only where it rose, with the count as it is then
 pub record MayFail (old new : ℕ) (failed : ℕ → Type 0) : Type 0 where

@@ -7,6 +7,7 @@
 use Rattle.std.specs.Prelude.{◌≡◌, ℕ, zero, suc, ◌+◌, ◌≤◌, ◌==◌, ◌&&◌, nat_le, nat_lt, Bool, if◌then◌else◌, List, [], ◌∷◌, ◌++◌, length, take, drop, Option, Some, None}
 use Rattle.std.specs.Option.{option_map}
 use Rattle.std.specs.Int.{from_be_bytes, to_be_bytes, w32}
+use Rattle.global_defs.specs.declared.limits.TheConstants.{LONGEST_BODY}
 
 -- a record's bytes
 abbrev pub Body : Type 0
@@ -20,7 +21,7 @@ pub data Gate : Type 0 where
 
 -- a body may have this length, and it and the next gate stand in the file
 abbrev pub fits : ℕ → List ℕ → Bool
-fits n rest = nat_le 1 n && nat_le n 1048576 && nat_le (n + 5) (length rest)
+fits n rest = nat_le 1 n && nat_le n LONGEST_BODY && nat_le (n + 5) (length rest)
 
 abbrev pub behind_length : ℕ → List ℕ → Gate
 behind_length n rest = if fits n rest then Open (take n (drop 4 rest)) (drop (4 + n) rest) else NoGate
@@ -73,7 +74,7 @@ spelled_with (gate ∷ gates) (body ∷ bodies) = gate ∷ framed body ++ spelle
 
 pub record IsBody (body : Body) : Type 0 where
   pub not_empty : 1 ≤ length body
-  pub not_long : length body ≤ 1048576
+  pub not_long : length body ≤ LONGEST_BODY
 
 -- The file has the records of `sure`, and then the first few of `more`.
 abbrev pub Stands : List Body → List Body → List ℕ → Type 0

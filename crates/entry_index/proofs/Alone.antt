@@ -2,6 +2,7 @@
 use Rattle.std.proofs.Common.{◌≡◌, ℕ, zero, suc, ◌^◌, ◌<◌, ◌&&◌, ◌||◌, not, Bool, true, List, Option, Some, IsSome, refl, sym, ◌∙◌, ap, subst, arith}
 use Rattle.std.proofs.lemmas.List.{append-nil}
 use Rattle.std.specs.List.{list_all}
+use Rattle.global_defs.specs.declared.limits.TheConstants.{MOST_REGIONS}
 use Rattle.journal_defs.specs.Journal.{Item, Part}
 use Rattle.journal_defs.specs.Sequence.{REGIONS, in_mask, is_like, items_of, items_in, updates_by}
 use Rattle.mupip_recover.specs.Slots.{next_after, is_at}
@@ -18,7 +19,7 @@ likes_itself p =
     rw (m, c, u, s) refl
 
 -- a mask of one region
-one_agrees : (part : ℕ → Option Part) (p : Part) (r : ℕ) → r < 8 → is_like p (part r) ≡ true → list_all (λ q. not (in_mask (2 ^ r) q) || is_like p (part q)) REGIONS ≡ true
+one_agrees : (part : ℕ → Option Part) (p : Part) (r : ℕ) → r < MOST_REGIONS → is_like p (part r) ≡ true → list_all (λ q. not (in_mask (2 ^ r) q) || is_like p (part q)) REGIONS ≡ true
 one_agrees part p zero low like = ap (λ (b : Bool). b && true) like
 one_agrees part p (suc zero) low like = ap (λ (b : Bool). b && true) like
 one_agrees part p (suc (suc zero)) low like = ap (λ (b : Bool). b && true) like
@@ -29,7 +30,7 @@ one_agrees part p (suc (suc (suc (suc (suc (suc zero)))))) low like = ap (λ (b 
 one_agrees part p (suc (suc (suc (suc (suc (suc (suc zero))))))) low like = ap (λ (b : Bool). b && true) like
 one_agrees part p (suc (suc (suc (suc (suc (suc (suc (suc r)))))))) low like = absurd (omega arith)
 
-one_items : (part : ℕ → Option Part) (r : ℕ) → r < 8 → items_in (2 ^ r) part ≡ items_of (part r)
+one_items : (part : ℕ → Option Part) (r : ℕ) → r < MOST_REGIONS → items_in (2 ^ r) part ≡ items_of (part r)
 one_items part zero low = append-nil (items_of (part 0))
 one_items part (suc zero) low = append-nil (items_of (part 1))
 one_items part (suc (suc zero)) low = append-nil (items_of (part 2))
@@ -41,7 +42,7 @@ one_items part (suc (suc (suc (suc (suc (suc (suc zero))))))) low = append-nil (
 one_items part (suc (suc (suc (suc (suc (suc (suc (suc r)))))))) low = absurd (omega arith)
 
 -- the only part, with its positions in order
-pub one_part : (part : ℕ → Option Part) (r : ℕ) (p : Part) → r < 8 → part r ≡ Some p → p.mask ≡ 2 ^ r → is_at p.count (next_after 0 p.items) ≡ true → IsSome (updates_by part p)
+pub one_part : (part : ℕ → Option Part) (r : ℕ) (p : Part) → r < MOST_REGIONS → part r ≡ Some p → p.mask ≡ 2 ^ r → is_at p.count (next_after 0 p.items) ≡ true → IsSome (updates_by part p)
 one_part part r p low at mask order =
     let like : is_like p (part r) ≡ true = ap (is_like p) at ∙ likes_itself p in
     let agree : list_all (λ q. not (in_mask p.mask q) || is_like p (part q)) REGIONS ≡ true =

@@ -5,6 +5,7 @@ use Rattle.std.proofs.Math.Nat.{mul-div_cancel_left, mul-le-mul_left}
 use Rattle.std.proofs.lemmas.Bool.Decides.{nat_tests}
 use Rattle.std.proofs.lemmas.List.{take-append-le}
 use Rattle.std.proofs.lemmas.Option.{slice_get_within}
+use Rattle.global_defs.specs.declared.limits.TheConstants.{MOST_GENERATIONS}
 use Rattle.disk_defs.specs.Disk.{Files}
 use Rattle.global_defs.specs.Entry.{Reign, Stamp, Sequence}
 use Rattle.global_defs.specs.Prefix.{stamp_at}
@@ -115,7 +116,7 @@ said_there g at (Pblk block) s is = absurd (cc is)
 sign_there : (instance : List InstanceRecord) (n : ℕ) (p : PlacedSign) (s : PartSign) → sign_in instance n p ≡ Some s → s.place ≡ record { generation = p.generation; offset = p.offset }
 sign_there instance n p s is =
     let told = surviving_is instance p.generation (part_sign_in p) s (numbered_is n (if_surviving instance p.generation (part_sign_in p)) s is) in
-    said_there p.generation p.offset p.sign s (chosen (nat_le 1 p.generation && nat_le p.generation 65535) (part_said p.generation p.offset p.sign) s told)
+    said_there p.generation p.offset p.sign s (chosen (nat_le 1 p.generation && nat_le p.generation MOST_GENERATIONS) (part_said p.generation p.offset p.sign) s told)
 
 record IsOneOf (signs : List PlacedSign) (place : PartPlace) : Type 0 where
   at : ℕ

@@ -5,6 +5,7 @@ use Rattle.std.proofs.lemmas.Bool.Decides.{nat_tests}
 use Rattle.std.proofs.lemmas.List.{drop_all, take_all}
 use Rattle.std.specs.List.{list_all}
 use Rattle.std.specs.Option.{option_or, option_map, option_and_then}
+use Rattle.global_defs.specs.declared.limits.TheConstants.{MOST_REGIONS}
 use Rattle.disk_defs.specs.Disk.{Files}
 use Rattle.global_defs.specs.Entry.{Entry, Origin, Stamp, Reign}
 use Rattle.global_defs.specs.Prefix.{stamp_at}
@@ -140,7 +141,7 @@ told_by_part files n part stamp r head told is decides =
     (told_mapped (λ us. entry_of stamp p.origin.updater p.origin.serial us) told (updates_by part p) (decides p tells))
 
 -- and by the only part, whose positions are in order
-pub told_alone : (files : Files) (n : ℕ) (part : ℕ → Option Part) (stamp : Stamp) (r : ℕ) (head : PartSign) → r < 8 → IsSign files r n (Some head) (part r) → IsAlone head r → IsSome (entry_in part stamp r)
+pub told_alone : (files : Files) (n : ℕ) (part : ℕ → Option Part) (stamp : Stamp) (r : ℕ) (head : PartSign) → r < MOST_REGIONS → IsSign files r n (Some head) (part r) → IsAlone head r → IsSome (entry_in part stamp r)
 told_alone files n part stamp r head low is (mask, row, first, many) =
     let (p, at, tells) = head_part files r n head (part r) is in
     let counts : (0 + head.span.many == p.count) ≡ true = grind (arith, nat_tests, many, tells.count) in
@@ -157,7 +158,7 @@ some_of None h = cc
 some_of (Some x) h = (x, refl)
 
 -- the first region that tells something
-pub told_first : (part : ℕ → Option Part) (stamp : Stamp) (r : ℕ) (told : Told) → r < 8 → entry_among part stamp REGIONS ≡ entry_among part stamp (drop r REGIONS)
+pub told_first : (part : ℕ → Option Part) (stamp : Stamp) (r : ℕ) (told : Told) → r < MOST_REGIONS → entry_among part stamp REGIONS ≡ entry_among part stamp (drop r REGIONS)
     → IsTold told (entry_in part stamp r) → (told ≡ Broken → ⊥) → IsTold told (entry_among part stamp REGIONS)
 told_first part stamp r Complete low before is not_broken =
     let (e, at) = some_of (entry_in part stamp r) is in
@@ -206,7 +207,7 @@ some_behind part stamp (suc k) [] is = is
 some_behind part stamp (suc k) (r ∷ rs) is = some_or (entry_in part stamp r) (entry_among part stamp rs) (some_behind part stamp k rs is)
 
 -- an entry with a part that is the only one of its entry is complete
-pub alone_complete : (files : Files) (n : ℕ) (part : ℕ → Option Part) (stamp : Stamp) (r : ℕ) (s : PartSign) → r < 8 → IsSign files r n (Some s) (part r) → IsAlone s r → IsSome (entry_among part stamp REGIONS)
+pub alone_complete : (files : Files) (n : ℕ) (part : ℕ → Option Part) (stamp : Stamp) (r : ℕ) (s : PartSign) → r < MOST_REGIONS → IsSign files r n (Some s) (part r) → IsAlone s r → IsSome (entry_among part stamp REGIONS)
 alone_complete files n part stamp r s low sign alone = some_behind part stamp r REGIONS (by (entry_in part stamp r) refl (told_alone files n part stamp r s low sign alone))
   where
     by : (o : Option Entry) → entry_in part stamp r ≡ o → IsSome o → IsSome (entry_among part stamp (drop r REGIONS))

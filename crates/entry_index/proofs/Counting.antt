@@ -6,6 +6,7 @@ use Rattle.std.proofs.lemmas.List.{map-id}
 use Rattle.std.proofs.lemmas.List.Sums.{sum_by-cons}
 use Rattle.std.proofs.lemmas.List.FromFn.{get_or-map-range_with_len}
 use Rattle.std.specs.List.{AllZip, AllByRecursion, flat_map, range_with_len}
+use Rattle.global_defs.specs.declared.limits.TheConstants.{MOST_GENERATIONS}
 use Rattle.disk_defs.specs.Disk.{Files}
 use Rattle.journal_defs.specs.Instance.{InstanceRecord}
 use Rattle.journal_defs.specs.Journal as journal
@@ -26,15 +27,15 @@ kind_told g at (journal.Pini s) = refl
 kind_told g at (journal.Epoch m) = refl
 kind_told g at (journal.Pblk b) = refl
 
-one_told : (files : Files) (r : ℕ) (s : PlacedSign) (p : Placed) → IsSignOf files r s p → (1 ≤ p.generation) × (p.generation ≤ 65535) → is_part_sign s ≡ is_part p.what
+one_told : (files : Files) (r : ℕ) (s : PlacedSign) (p : Placed) → IsSignOf files r s p → (1 ≤ p.generation) × (p.generation ≤ MOST_GENERATIONS) → is_part_sign s ≡ is_part p.what
 one_told files r s p is (least, most) =
-    let yes : (nat_le 1 s.generation && nat_le s.generation 65535) ≡ true = grind (arith, nat_tests, is.generation, least, most) in
+    let yes : (nat_le 1 s.generation && nat_le s.generation MOST_GENERATIONS) ≡ true = grind (arith, nat_tests, is.generation, least, most) in
     ap (λ (b : Bool). is_some (if b then part_said s.generation s.offset s.sign else None)) yes
     ∙ ap (λ (x : Sign). is_some (part_said s.generation s.offset x)) is.says
     ∙ kind_told s.generation s.offset p.what
 
 -- as many signs of parts as parts
-region_told : (files : Files) (r : ℕ) (ss : List PlacedSign) (ps : List Placed) → AllZip (IsSignOf files r) ss ps → AllByRecursion (λ p. (1 ≤ p.generation) × (p.generation ≤ 65535)) ps
+region_told : (files : Files) (r : ℕ) (ss : List PlacedSign) (ps : List Placed) → AllZip (IsSignOf files r) ss ps → AllByRecursion (λ p. (1 ≤ p.generation) × (p.generation ≤ MOST_GENERATIONS)) ps
     → count_by is_part_sign ss ≡ count_by (λ p. is_part p.what) ps
 region_told files r [] [] zip all = refl
 region_told files r [] (p ∷ ps) zip all = absurd zip

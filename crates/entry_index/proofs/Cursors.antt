@@ -3,6 +3,7 @@ use Rattle.std.proofs.Common.{◌≡◌, ℕ, ◌+◌, ◌≤◌, ◌<◌, ◌==
 use Rattle.std.proofs.lemmas.Bool.Decides.{nat_tests}
 use Rattle.std.specs.Option.{option_or}
 use Rattle.std.specs.Prelude.{is_some}
+use Rattle.global_defs.specs.declared.limits.TheConstants.{MOST_GENERATIONS}
 use Rattle.disk_defs.specs.Disk.{Files}
 use Rattle.journal_defs.specs.Instance.{InstanceRecord}
 use Rattle.journal_defs.specs.Journal.{Part}
@@ -226,12 +227,12 @@ placed_said g at (Epoch closing number blocks) s is = absurd (cc is)
 placed_said g at (Pblk block) s is = absurd (cc is)
 
 pub placed_is : (p : PlacedSign) (s : PartSign) → part_sign_in p ≡ Some s → placed_by s ≡ p
-placed_is p s is = placed_said p.generation p.offset p.sign s (chosen (nat_le 1 p.generation && nat_le p.generation 65535) (part_said p.generation p.offset p.sign) s is)
+placed_is p s is = placed_said p.generation p.offset p.sign s (chosen (nat_le 1 p.generation && nat_le p.generation MOST_GENERATIONS) (part_said p.generation p.offset p.sign) s is)
 
 -- what the sign of a drawn part says is that part
 pub said_part : (files : Files) (region : ℕ) (s : PartSign) (x : Placed) → IsDrawn x → IsSignOf files region (placed_by s) x → Some s ≡ part_sign_in (placed_by s)
 said_part files region s x (least, most) sign =
-    let yes : (nat_le 1 s.place.generation && nat_le s.place.generation 65535) ≡ true = grind (arith, nat_tests, sign.generation, least, most) in
+    let yes : (nat_le 1 s.place.generation && nat_le s.place.generation MOST_GENERATIONS) ≡ true = grind (arith, nat_tests, sign.generation, least, most) in
     sym (ap (λ (b : Bool). if b then Some s else None) yes)
 
 -- a record more is taken in

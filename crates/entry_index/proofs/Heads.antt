@@ -1,6 +1,7 @@
 -- Gates and lengths outside the format, as they are read from a piece.
 use Rattle.std.proofs.Common.{◌≡◌, ℕ, ◌+◌, ◌-◌, ◌≤◌, ◌<◌, [], ◌∷◌, take, drop, Option, Some, None, IfSome, refl, subst}
 use Rattle.std.specs.Int.{from_be_bytes, w32}
+use Rattle.global_defs.specs.declared.limits.TheConstants.{LONGEST_BODY}
 use Rattle.disk_defs.specs.Disk.{Files}
 use Rattle.disk_defs.specs.Gates.{NoGate, gate_at}
 use Rattle.disk_defs.proofs.Told.{told_at}
@@ -13,7 +14,7 @@ module _ (p : Pieces) (files : Files) (is : IsPieceOf p files) (at : ℕ) (long 
   pub gate_short : p.size - at < 6 → gate_at (files p.file) at ≡ NoGate
   gate_short short = was_short (files p.file) at p.size (b ∷ []) long is.size inside gate opened short
 
-  pub gate_unfit : (n : ℕ) → n ≡ from_be_bytes w32 (take 4 (drop (at + 1) (files p.file))) → (1 ≤ n → n ≤ 1048576 → p.size - at < n + 6) → gate_at (files p.file) at ≡ NoGate
+  pub gate_unfit : (n : ℕ) → n ≡ from_be_bytes w32 (take 4 (drop (at + 1) (files p.file))) → (1 ≤ n → n ≤ LONGEST_BODY → p.size - at < n + 6) → gate_at (files p.file) at ≡ NoGate
   gate_unfit n n_is unfit = was_unfit (files p.file) at p.size n (b ∷ []) (take 4 (drop (at + 1) (files p.file))) long is.size inside gate opened refl n_is unfit
 
 -- what is known of a file by two readings of it

@@ -5,6 +5,7 @@ use Rattle.std.proofs.lemmas.Bool.Decides.{nat_tests}
 use Rattle.std.proofs.lemmas.List.{drop-drop, get_or-take, get_or-drop, get_or_past}
 use Rattle.std.proofs.lemmas.Nat.{be_bytes_4}
 use Rattle.std.specs.Int.{from_be_bytes, w32}
+use Rattle.global_defs.specs.declared.limits.TheConstants.{LONGEST_BODY}
 use Rattle.disk_defs.specs.Gates.{Body, Shut, Open, NoGate, fits, behind, gate_of, gate_at}
 use Rattle.disk_defs.proofs.Walks.{gate_in}
 use Rattle.journal_defs.specs.Journal.{IsJournalBody}
@@ -19,7 +20,7 @@ pub record Behind (r : List ℕ) (body : Body) (rest : List ℕ) : Type 0 where
   pub n : ℕ
   pub n_is : n ≡ from_be_bytes w32 (take 4 r)
   pub low : 1 ≤ n
-  pub high : n ≤ 1048576
+  pub high : n ≤ LONGEST_BODY
   pub long : n + 5 ≤ length r
   pub body_is : body ≡ take n (drop 4 r)
   pub rest_is : rest ≡ drop (4 + n) r

@@ -1,5 +1,6 @@
 -- Keys, values and updates that are passed over.
 use Rattle.std.proofs.Common.{◌≡◌, ◌≢◌, List, ℕ, [], ◌∷◌, ◌++◌, ◌<◌, ◌≤◌, ◌^◌, rules, arith, length, true, Option, Some, None, refl, ap, sym, ◌∙◌, subst}
+use Rattle.global_defs.specs.declared.limits.TheConstants.{LONGEST_VALUE}
 use Rattle.gvn_key.specs.Decoding.{IsCode}
 use Rattle.global_defs.specs.Key.{Key}
 use Rattle.global_defs.specs.Valid.{is_key}
@@ -36,11 +37,11 @@ no_code bytes none x r form e = none (encoded x) r (short_code x form) e
 
 -- the value that stands behind its length
 module _ (bytes text rest : List ℕ) (read : ReadsField (λ s. length s < 2 ^ 16) long bytes (Some (text, rest))) where
-  pub value_passed : length text ≤ 1500 → Skips value bytes (Some rest)
+  pub value_passed : length text ≤ LONGEST_VALUE → Skips value bytes (Some rest)
   value_passed few = (text, (few, read.1, λ x r form e. read.2 x r (omega (arith, form)) e))
 
-  pub no_value : (length text ≤ 1500 → ⊥) → Skips value bytes None
-  no_value many x r form e = many (subst (λ (s : List ℕ). length s ≤ 1500) (read.2 x r (omega (arith, form)) e).0 form)
+  pub no_value : (length text ≤ LONGEST_VALUE → ⊥) → Skips value bytes None
+  no_value many x r form e = many (subst (λ (s : List ℕ). length s ≤ LONGEST_VALUE) (read.2 x r (omega (arith, form)) e).0 form)
 
 pub no_long : (bytes : List ℕ) → ReadsField (λ s. length s < 2 ^ 16) long bytes None → Skips value bytes None
 no_long bytes none x r form e = none x r (omega (arith, form)) e

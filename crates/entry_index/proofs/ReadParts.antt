@@ -7,6 +7,7 @@ use Rattle.std.proofs.Math.ListN.{get_or-append}
 use Rattle.std.proofs.Math.Path.{fun_ext}
 use Rattle.std.proofs.Math.Seq.{get_or-append_seam}
 use Rattle.std.specs.Option.{option_map}
+use Rattle.global_defs.specs.declared.limits.TheConstants.{MOST_GENERATIONS}
 use Rattle.disk_defs.specs.Disk.{Files}
 use Rattle.global_defs.specs.Entry.{Stamp}
 use Rattle.gvn_model.specs.declared.entry.Transaction.{Transaction}
@@ -27,7 +28,7 @@ module _ (files : Files) (r n : ℕ) (p : PartPlace) where
   none_at (Some x) zero is = absurd (omega (arith, zero, is.0))
 
   -- past the last generation there can be nothing
-  pub none_past : (x : Option Part) → 65535 < p.generation → IsPartAt (InFiles files) r n p x → ⊥
+  pub none_past : (x : Option Part) → MOST_GENERATIONS < p.generation → IsPartAt (InFiles files) r n p x → ⊥
   none_past None past is = omega (arith, past, is)
   none_past (Some x) past is = omega (arith, past, is.1)
 

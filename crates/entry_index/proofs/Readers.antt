@@ -1,6 +1,7 @@
 -- Where a reader of a region's journals is.
 use Rattle.std.proofs.Common.{◌≡◌, ℕ, suc, ◌+◌, ◌≤◌, ◌<◌, nat_eq, Bool, false, List, [], ◌∷◌, ◌++◌, length, map, sum_by, Some, None, refl, sym, ◌∙◌, ap, subst, arith}
 use Rattle.std.proofs.lemmas.Bool.Decides.{nat_tests}
+use Rattle.global_defs.specs.declared.limits.TheConstants.{MOST_GENERATIONS}
 use Rattle.disk_defs.specs.Disk.{Files}
 use Rattle.disk_defs.specs.Gates.{spelled}
 use Rattle.journal_defs.specs.Numbers.{journal_file}
@@ -58,7 +59,7 @@ module _ (files : Files) (p q : Reader) (journal : List Placed) (inside : p.gene
   file = files (journal_file p.generation p.region)
 
   -- past a record
-  pub at_next : (s : Sign) (next : ℕ) → p.generation ≤ 65535 → FindsSign file p.at (Some (s, next)) → MayJoin (nat_eq p.at 0) p.region p.generation p.previous s → q ≡ record p { at = next; began = p.generation }
+  pub at_next : (s : Sign) (next : ℕ) → p.generation ≤ MOST_GENERATIONS → FindsSign file p.at (Some (s, next)) → MayJoin (nat_eq p.at 0) p.region p.generation p.previous s → q ≡ record p { at = next; began = p.generation }
       → IsNextRecord files p.region q journal (record { generation = p.generation; offset = p.at; sign = s })
   at_next s next most found may same =
       let r : JournalRecord = record_value found.0 in
@@ -79,7 +80,7 @@ module _ (files : Files) (p q : Reader) (journal : List Placed) (inside : p.gene
       }
 
   -- past a part, by its body
-  pub at_part : (body : List ℕ) (s : PartSign) → p.generation ≤ 65535 → IsBodyOf file p.at body → TellsSign body (Some (placed_by s).sign) → s.place ≡ record { generation = p.generation; offset = p.at } → (p.at ≡ 0 → ⊥)
+  pub at_part : (body : List ℕ) (s : PartSign) → p.generation ≤ MOST_GENERATIONS → IsBodyOf file p.at body → TellsSign body (Some (placed_by s).sign) → s.place ≡ record { generation = p.generation; offset = p.at } → (p.at ≡ 0 → ⊥)
       → q ≡ record p { at = p.at + 5 + length body; began = p.generation } → IsNextRecord files p.region q journal (placed_by s)
   at_part body s most of tells place later same =
       let sign : Sign = (placed_by s).sign in

@@ -2,6 +2,7 @@
 use Rattle.std.proofs.Common.{◌≡◌, ℕ, ◌<◌, ◌≤◌, ◌^◌, ◌==◌, Bool, true, false, List, [], ◌∷◌, ◌++◌, length, arith, Some, None, refl, ap, sym, ◌∙◌, subst}
 use Rattle.std.proofs.lemmas.Bool.Decides.{nat_tests}
 use Rattle.std.proofs.lemmas.List.{append-nil, nil_from_length}
+use Rattle.global_defs.specs.declared.limits.TheConstants.{MOST_GENERATIONS, MOST_REGIONS, NUMBERS_END}
 use Rattle.journal_defs.specs.Journal.{JournalRecord, Pini, Epoch, Pblk, Tcom, Item, IsInForm, spelled_record}
 use Rattle.jnl_record.proofs.Records.{few}
 use Rattle.entry_index.specs.Fields.{Field, Reads, Sees, then, word, start, mark, head, items}
@@ -61,7 +62,7 @@ pub no_start : (bytes : List ℕ) → Reads start bytes None → TellsSign (1 �
 no_start bytes none = untold start 1 bytes pini is_first (pini_only bytes) none
 
 module _ (bytes : List ℕ) (version region : ℕ) (before : Bool) (generation previous : ℕ) (rest : List ℕ) (read : Reads start bytes (Some ((version, (region, (before, (generation, previous)))), rest))) where
-  pub start_told : version ≡ 1 → region < 8 → generation ≤ 65535 → previous < generation → length rest ≡ 0 → TellsSign (1 ∷ bytes) (Some (sign.Pini region before generation previous))
+  pub start_told : version ≡ 1 → region < MOST_REGIONS → generation ≤ MOST_GENERATIONS → previous < generation → length rest ≡ 0 → TellsSign (1 ∷ bytes) (Some (sign.Pini region before generation previous))
   start_told first small most earlier none =
       told start 1 bytes pini is_first (pini_only bytes) (version, (region, (before, (generation, previous)))) rest (sign.Pini region before generation previous) read none
       (record { region = small; generation = (omega (arith, earlier), most); previous = earlier })
@@ -82,7 +83,7 @@ pub no_mark : (bytes : List ℕ) → Reads mark bytes None → TellsSign (2 ∷ 
 no_mark bytes none = untold mark 2 bytes epoch (λ t. Unit {0}) (epoch_only bytes) none
 
 module _ (bytes : List ℕ) (closing : Bool) (number blocks : ℕ) (rest : List ℕ) (read : Reads mark bytes (Some ((closing, (number, blocks)), rest))) where
-  pub mark_told : number < 2 ^ 40 → length rest ≡ 0 → TellsSign (2 ∷ bytes) (Some (sign.Epoch closing number blocks))
+  pub mark_told : number < NUMBERS_END → length rest ≡ 0 → TellsSign (2 ∷ bytes) (Some (sign.Epoch closing number blocks))
   mark_told small none = told mark 2 bytes epoch (λ t. Unit {0}) (epoch_only bytes) (closing, (number, blocks)) rest (sign.Epoch closing number blocks) read none (small, read.0.1.1) refl refl
 
 -- PBLK

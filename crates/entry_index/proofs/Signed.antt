@@ -5,6 +5,7 @@ use Rattle.std.proofs.lemmas.Bool.Decides.{nat_tests}
 use Rattle.std.proofs.lemmas.List.{get_or_past}
 use Rattle.std.specs.List.{AllZip, AllByRecursion}
 use Rattle.std.specs.Option.{option_or}
+use Rattle.global_defs.specs.declared.limits.TheConstants.{MOST_GENERATIONS}
 use Rattle.disk_defs.specs.Disk.{Files}
 use Rattle.journal_defs.specs.Numbers.{journal_file}
 use Rattle.journal_defs.specs.Journal as journal
@@ -36,7 +37,7 @@ module _ (files : Files) (r n : ℕ) where
   surviving s p true h = h
   surviving s p false h = tt
 
-  tells_part : (rs : List InstanceRecord) (g at : ℕ) (p : Part) → 1 ≤ g → g ≤ 65535 → StandsAt (files (journal_file g r)) at (journal.Tcom p)
+  tells_part : (rs : List InstanceRecord) (g at : ℕ) (p : Part) → 1 ≤ g → g ≤ MOST_GENERATIONS → StandsAt (files (journal_file g r)) at (journal.Tcom p)
       → IsSign files r n (if_numbered n (if_surviving rs g (Some (said g at p)))) (parts.if_numbered n (parts.surviving_in rs g (journal.Tcom p)))
   tells_part rs g at p least most stands = surviving (said g at p) p (survives rs g p.number) (numbered (said g at p) p (p.number == n) (λ yes.
       let same : p.number ≡ n = grind (arith, nat_tests) in
@@ -49,7 +50,7 @@ module _ (files : Files) (r n : ℕ) where
         stands = (least, most, same, stands);
       }))
 
-  tells : (rs : List InstanceRecord) (g at : ℕ) (what : JournalRecord) → 1 ≤ g → g ≤ 65535 → StandsAt (files (journal_file g r)) at what
+  tells : (rs : List InstanceRecord) (g at : ℕ) (what : JournalRecord) → 1 ≤ g → g ≤ MOST_GENERATIONS → StandsAt (files (journal_file g r)) at what
       → IsSign files r n (if_numbered n (if_surviving rs g (part_said g at (sign_of what)))) (part_in rs n g what)
   tells rs g at (journal.Tcom p) least most stands =
       subst (λ (o : Option Part). IsSign files r n (if_numbered n (if_surviving rs g (Some (said g at p)))) o) (sym (counts_for rs n g (journal.Tcom p) (parts.surviving_in rs g (journal.Tcom p)) refl))
@@ -59,10 +60,10 @@ module _ (files : Files) (r n : ℕ) where
   tells rs g at (journal.Pblk b) least most stands = tt
 
   -- the sign of a record tells whether that is the surviving part of an entry
-  pub tells_in : (rs : List InstanceRecord) (s : PlacedSign) (p : Placed) → IsSignOf files r s p → (1 ≤ p.generation) × (p.generation ≤ 65535) → IsSign files r n (sign_in rs n s) (part_in rs n p.generation p.what)
+  pub tells_in : (rs : List InstanceRecord) (s : PlacedSign) (p : Placed) → IsSignOf files r s p → (1 ≤ p.generation) × (p.generation ≤ MOST_GENERATIONS) → IsSign files r n (sign_in rs n s) (part_in rs n p.generation p.what)
   tells_in rs s p is (least, most) =
       let g = p.generation in
-      let yes : (nat_le 1 s.generation && nat_le s.generation 65535) ≡ true = grind (arith, nat_tests, is.generation, least, most) in
+      let yes : (nat_le 1 s.generation && nat_le s.generation MOST_GENERATIONS) ≡ true = grind (arith, nat_tests, is.generation, least, most) in
       let stands = tells rs g s.offset p.what least most is.stands in
       subst (λ (b : Bool). IsSign files r n (if_numbered n (if_surviving rs s.generation (if b then part_said s.generation s.offset s.sign else None))) (part_in rs n g p.what)) (sym yes)
       (subst (λ (k : ℕ). IsSign files r n (if_numbered n (if_surviving rs k (part_said k s.offset s.sign))) (part_in rs n g p.what)) (sym is.generation)
@@ -75,7 +76,7 @@ module _ (files : Files) (r n : ℕ) where
   either (Some s) b (Some p) y h k = h
 
   -- the last sign of an entry is that of its last surviving part
-  pub last_tells : (rs : List InstanceRecord) (ss : List PlacedSign) (ps : List Placed) → AllZip (IsSignOf files r) ss ps → AllByRecursion (λ p. (1 ≤ p.generation) × (p.generation ≤ 65535)) ps
+  pub last_tells : (rs : List InstanceRecord) (ss : List PlacedSign) (ps : List Placed) → AllZip (IsSignOf files r) ss ps → AllByRecursion (λ p. (1 ≤ p.generation) × (p.generation ≤ MOST_GENERATIONS)) ps
       → IsSign files r n (last_sign rs n ss) (part_of rs n ps)
   last_tells rs [] [] zip all = tt
   last_tells rs [] (p ∷ ps) zip all = absurd zip

@@ -1,8 +1,9 @@
 -- Records by their places.
-use Rattle.std.proofs.Common.{◌≡◌, inr, ℕ, ◌+◌, ◌<◌, ◌≤◌, List, length, take, drop, Some, false, Result, Ok, Err, OnOk, is_err, refl, ap, sym, ◌∙◌, subst, arith, length-take, length-drop}
+use Rattle.std.proofs.Common.{◌≡◌, inr, ℕ, ◌+◌, ◌<◌, ◌≤◌, List, length, take, drop, Some, refl, ap, sym, ◌∙◌, subst, arith, length-take, length-drop}
 use Rattle.std.proofs.lemmas.List.{drop-drop}
 use Rattle.std.proofs.lemmas.Nat.{from_be_bytes-to_be_bytes_4}
 use Rattle.std.specs.Int.{from_be_bytes, w32}
+use Rattle.global_defs.specs.declared.limits.TheConstants.{LONGEST_BODY}
 use Rattle.disk_defs.specs.Gates.{Body}
 use Rattle.gated_file.specs.Reading.{HasBody}
 use Rattle.gated_file.proofs.Gates.{body_opens}
@@ -58,7 +59,7 @@ module _ (file : List ℕ) (at : ℕ) (r : JournalRecord) (s : StandsAt file at 
       let same : length s.body ≡ n = stands_size ∙ ap (λ (l : List ℕ). from_be_bytes w32 l) has.head ∙ from_be_bytes-to_be_bytes_4 n (omega (arith, has.not_long)) in
       subst (λ (b : Body). IsJournalBody b r) (sym s.there ∙ ap (λ (k : ℕ). take k (drop (at + 5) file)) same) s.spelled
 
-  pub stands_outside : (n : ℕ) → n ≡ from_be_bytes w32 (take 4 (drop (at + 1) file)) → (1 ≤ n → n ≤ 1048576 → length file < at + 5 + n) → ⊥
+  pub stands_outside : (n : ℕ) → n ≡ from_be_bytes w32 (take 4 (drop (at + 1) file)) → (1 ≤ n → n ≤ LONGEST_BODY → length file < at + 5 + n) → ⊥
   stands_outside n is out = omega (arith, out (omega (arith, is, stands_size, s.size.not_empty)) (omega (arith, is, stands_size, s.size.not_long)), is, stands_size, stands_inside)
 
 pub one_stands : (file : List ℕ) (at : ℕ) (r q : JournalRecord) → StandsAt file at r → StandsAt file at q → r ≡ q
@@ -91,8 +92,3 @@ module _ (file : List ℕ) (at n : ℕ) (has : HasBody file at n) (shown : List 
 
   pub no_sign_found : ((r : JournalRecord) → IsJournalBody shown r → ⊥) → IsNoRecord file at
   no_sign_found none = inr (take n (drop (at + 5) file), at + 5 + n, body_opens file at n has, λ r body. none r (subst (λ (b : Body). IsJournalBody b r) (sym is) body))
-
--- what holds of a call that didn't fail
-pub ok_of : {E : Type 0} (r : Result (Unit {0}) E) (P : Type 0) → is_err r ≡ false → OnOk r P → P
-ok_of (Ok u) P is h = h
-ok_of (Err e) P is h = absurd (cc)

@@ -1,6 +1,7 @@
 -- A region's journals on the way through them: up to where they are read, and what is kept of their records.
 use Rattle.std.specs.Prelude.{◌≡◌, ℕ, suc, ◌+◌, ◌-◌, ◌*◌, ◌^◌, ◌<◌, ◌≤◌, Bool, true, false, List, [], ◌∷◌, ◌++◌, length, get_or, Option, Some, None, IfSome}
 use Rattle.std.specs.List.{AllByRecursion}
+use Rattle.global_defs.specs.declared.limits.TheConstants.{MOST_GENERATIONS, MOST_REGIONS}
 use Rattle.disk_defs.specs.Disk.{Files}
 use Rattle.global_defs.specs.Entry.{Sequence}
 use Rattle.journal_defs.specs.Instance.{InstanceRecord}
@@ -38,12 +39,12 @@ placed_by s = record { generation = s.place.generation; offset = s.place.offset;
 
 -- it stands in a generation that there may be
 abbrev pub IsDrawn : Placed → Type 0
-IsDrawn x = (1 ≤ x.generation) × (x.generation ≤ 65535)
+IsDrawn x = (1 ≤ x.generation) × (x.generation ≤ MOST_GENERATIONS)
 
 -- What holds of a reader, whatever the files.
 pub record IsSound (p : Reader) : Type 0 where
-  pub region : p.region < 8
-  pub last : p.last ≤ 65535
+  pub region : p.region < MOST_REGIONS
+  pub last : p.last ≤ MOST_GENERATIONS
   pub first : 1 ≤ p.generation
   pub most : p.generation ≤ p.last + 1
   pub began : p.began ≤ p.last

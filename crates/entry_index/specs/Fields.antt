@@ -2,6 +2,7 @@
 use Rattle.std.specs.Prelude.{◌≡◌, ℕ, ◌^◌, ◌<◌, ◌≤◌, Bool, List, [], ◌∷◌, ◌++◌, length, IsTrue, Option, Some, None}
 use Rattle.std.specs.Int.{to_be_bytes, w16, w32, w64}
 use Rattle.std.specs.List.{flat_map}
+use Rattle.global_defs.specs.declared.limits.TheConstants.{LONGEST_VALUE}
 use Rattle.global_defs.specs.Key.{Key}
 use Rattle.global_defs.specs.Valid.{is_key}
 use Rattle.global_defs.specs.Encoded.{encoded}
@@ -56,7 +57,7 @@ abbrev pub key : Field Key
 key = record { has = λ k. IsTrue (is_key k); spelled = λ k. short (encoded k) }
 
 abbrev pub value : Field (List ℕ)
-value = record { has = λ v. length v ≤ 1500; spelled = long }
+value = record { has = λ v. length v ≤ LONGEST_VALUE; spelled = long }
 
 abbrev pub pair : Field (Key × List ℕ)
 pair = and key value

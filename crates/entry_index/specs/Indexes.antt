@@ -1,6 +1,7 @@
 -- Indexes of entries.
 use Rattle.std.specs.List.{AllByRecursion}
 use Rattle.std.specs.Prelude.{◌≡◌, ℕ, suc, ◌+◌, ◌-◌, ◌*◌, ◌≤◌, ◌<◌, Bool, true, false, List, [], ◌++◌, length, get_or, slice_get, Option, Some, None, IsSome}
+use Rattle.global_defs.specs.declared.limits.TheConstants.{MOST_GENERATIONS}
 use Rattle.disk_defs.specs.Disk.{Files}
 use Rattle.global_defs.specs.Entry.{Reign, Entry, Sequence}
 use Rattle.global_defs.specs.Prefix.{stamp_at}
@@ -31,7 +32,7 @@ pub record Indexes (stands : ℕ → ℕ → ℕ → JournalRecord → Type 0) (
 -- These are the signs of all regions' records, whose generations are from 1 to 65,535.
 pub record AreSigns (files : Files) (signs : List (List PlacedSign)) (journal : ℕ → List Placed) : Type 0 where
   pub each : (r : ℕ) → r < length signs → AreSignsOf files r (get_or signs r []) (journal r)
-  pub generations : (r : ℕ) → r < length signs → AllByRecursion (λ p. (1 ≤ p.generation) × (p.generation ≤ 65535)) (journal r)
+  pub generations : (r : ℕ) → r < length signs → AllByRecursion (λ p. (1 ≤ p.generation) × (p.generation ≤ MOST_GENERATIONS)) (journal r)
   pub no_more : (r : ℕ) → length signs ≤ r → journal r ≡ []
 
 -- Entry n, which has these parts, is complete and its row was added; or it isn't complete and nothing was.

@@ -1,5 +1,6 @@
 -- Parts of entries by their places.
 use Rattle.std.specs.Prelude.{◌≡◌, ℕ, ◌≤◌, ◌<◌, ◌==◌, if◌then◌else◌, List, length, get_or, Option, Some, None}
+use Rattle.global_defs.specs.declared.limits.TheConstants.{MOST_GENERATIONS}
 use Rattle.disk_defs.specs.Disk.{Files}
 use Rattle.journal_defs.specs.Journal.{JournalRecord, Pini, Epoch, Pblk, Tcom, Part}
 use Rattle.journal_defs.specs.Numbers.{journal_file}
@@ -25,7 +26,7 @@ InJournals journal r g offset x = IsAmong (journal r) g offset x
 -- The part of entry n that stands at this place of region r, if one does.
 abbrev pub IsPartAt : (ℕ → ℕ → ℕ → JournalRecord → Type 0) → ℕ → ℕ → PartPlace → Option Part → Type 0
 IsPartAt stands r n p None = p.generation ≡ 0
-IsPartAt stands r n p (Some x) = (1 ≤ p.generation) × (p.generation ≤ 65535) × (x.number ≡ n) × stands r p.generation p.offset (Tcom x)
+IsPartAt stands r n p (Some x) = (1 ≤ p.generation) × (p.generation ≤ MOST_GENERATIONS) × (x.number ≡ n) × stands r p.generation p.offset (Tcom x)
 
 -- These are the parts of entry n that stand at a place in each region; the other regions have none.
 pub record AreParts (stands : ℕ → ℕ → ℕ → JournalRecord → Type 0) (n : ℕ) (row : List PartPlace) (part : ℕ → Option Part) : Type 0 where

@@ -1,6 +1,7 @@
 -- Files that are read a piece at a time.
 use Rattle.std.specs.Prelude.{◌≡◌, ℕ, ◌+◌, ◌≤◌, List, [], ◌∷◌, length, take, drop, Option, Some, None}
 use Rattle.std.specs.Int.{to_be_bytes, w32}
+use Rattle.global_defs.specs.declared.limits.TheConstants.{LONGEST_BODY}
 use Rattle.disk_defs.specs.Disk.{Files}
 use Rattle.gated_file.specs.Reading.{HasBody}
 use Rattle.jnl_record.specs.Values.{record_value}
@@ -31,7 +32,7 @@ pub record BeginsWithBody (bytes body : List ℕ) : Type 0 where
   pub gate : take 1 bytes ≡ 1 ∷ []
   pub head : take 4 (drop 1 bytes) ≡ to_be_bytes w32 (length body)
   pub not_empty : 1 ≤ length body
-  pub not_long : length body ≤ 1048576
+  pub not_long : length body ≤ LONGEST_BODY
   pub inside : length body + 6 ≤ length bytes
   pub shown : body ≡ take (length body) (drop 5 bytes)
 

@@ -2,6 +2,7 @@
 use Rattle.std.specs.Prelude.{◌≡◌, ◌≤◌, ℕ, ◌+◌, List, length, take, drop}
 use Rattle.std.specs.Int.{from_be_bytes, to_be_bytes, w32}
 use Rattle.std.specs.List.{AllZip}
+use Rattle.global_defs.specs.declared.limits.TheConstants.{LONGEST_BODY}
 use Rattle.disk_defs.specs.Disk.{Files}
 use Rattle.disk_defs.specs.Gates.{Body, IsBody}
 use Rattle.journal_defs.specs.Numbers.{journal_file}
@@ -22,7 +23,7 @@ pub record StandsAt (file : List ℕ) (at : ℕ) (r : JournalRecord) : Type 0 wh
 pub record HasLength (file : List ℕ) (at n : ℕ) : Type 0 where
   pub head : take 4 (drop (at + 1) file) ≡ to_be_bytes w32 n
   pub not_empty : 1 ≤ n
-  pub not_long : n ≤ 1048576
+  pub not_long : n ≤ LONGEST_BODY
   pub inside : at + 5 + n ≤ length file
 
 -- the sign of this record of a region, and its place

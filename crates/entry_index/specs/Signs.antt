@@ -1,6 +1,7 @@
 -- Signs of parts.
 use Rattle.std.specs.Prelude.{◌≡◌, ℕ, ◌==◌, ◌&&◌, nat_le, Bool, is_some, if◌then◌else◌, List, [], ◌∷◌, get_or, Option, Some, None}
 use Rattle.std.specs.Option.{option_or}
+use Rattle.global_defs.specs.declared.limits.TheConstants.{MOST_GENERATIONS}
 use Rattle.disk_defs.specs.Disk.{Files}
 use Rattle.journal_defs.specs.Instance.{InstanceRecord}
 use Rattle.journal_defs.specs.Journal.{Part}
@@ -22,7 +23,7 @@ part_said g at (Pblk block) = None
 
 -- the same, where the generation is one that there may be
 abbrev pub part_sign_in : PlacedSign → Option PartSign
-part_sign_in s = if nat_le 1 s.generation && nat_le s.generation 65535 then part_said s.generation s.offset s.sign else None
+part_sign_in s = if nat_le 1 s.generation && nat_le s.generation MOST_GENERATIONS then part_said s.generation s.offset s.sign else None
 
 abbrev pub is_part_sign : PlacedSign → Bool
 is_part_sign s = is_some (part_sign_in s)

@@ -1,5 +1,6 @@
 -- What bodies tell.
 use Rattle.std.specs.Prelude.{◌≡◌, ℕ, ◌≤◌, List, Option, Some, None}
+use Rattle.global_defs.specs.declared.limits.TheConstants.{MOST_UPDATERS, MOST_UPDATES}
 use Rattle.global_defs.specs.Fields.{IsNumber}
 use Rattle.journal_defs.specs.Journal.{JournalRecord, IsJournalBody}
 use Rattle.entry_index.specs.RecordSigns.{sign_of}
@@ -18,6 +19,6 @@ head_fields h = (h.number, (h.mask, (h.origin.updater, (h.origin.serial, (h.coun
 -- each field is in its range
 pub record IsInRange (h : Head) : Type 0 where
   pub number : IsNumber h.number
-  pub updater : (1 ≤ h.origin.updater) × (h.origin.updater ≤ 64)
+  pub updater : (1 ≤ h.origin.updater) × (h.origin.updater ≤ MOST_UPDATERS)
   pub serial : 1 ≤ h.origin.serial
-  pub count : (1 ≤ h.count) × (h.count ≤ 256)
+  pub count : (1 ≤ h.count) × (h.count ≤ MOST_UPDATES)

@@ -1,5 +1,6 @@
 //! Indexes built from the signs of records.
 ghost use Rattle.std.specs.Prelude.{◌≡◌, ◌≤◌, ◌<◌, ◌+◌, ◌*◌, ◌^◌, ℕ, List, length, map, Option, None, is_some, IfOk, IfSome, OnOk, IsErrOf, true, if◌then◌else◌};
+ghost use Rattle.global_defs.specs.declared.limits.TheConstants.{MOST_REGIONS};
 ghost use Rattle.disk_defs.specs.Disk.{Reads, MayFailUncounted};
 ghost use Rattle.global_defs.specs.Entry as defs;
 ghost use Rattle.global_defs.specs.Prefix as prefix;
@@ -52,7 +53,7 @@ pub(crate) fn add_row<D: Disk>(
     number: u64,
     made: &mut EntryIndex,
 ) -> Result<bool, IndexError>
-    requires few { made.old.regions ≤ 8 }
+    requires few { made.old.regions ≤ MOST_REGIONS }
     ensures added { IfOk result (λ more. IfSome (D.disk disk.old).content (λ files. (part : ℕ → Option journal.Part) → AreSigned files row.now number part → ((r : ℕ) → made.old.regions ≤ r → part r ≡ None)
         → (rs : List defs.Reign) → AreStarts rs starts.now → IsNext files rs number part more made.old.places.items made.new.places.items)) }
     ensures many { IfOk result (λ more. length made.new.places.items ≡ (if more then length made.old.places.items + made.old.regions else length made.old.places.items)) }
@@ -91,7 +92,7 @@ impl EntryIndex {
         signs: &[Vec<PlacedSign>],
     ) -> Result<EntryIndex, IndexError>
         requires history { history.now ≡ surviving.reigns instance.now }
-        requires few { length signs.now ≤ 8 }
+        requires few { length signs.now ≤ MOST_REGIONS }
         ensures sequence { IfOk result (λ made. IfSome (D.disk disk.old).content (λ files. (journal : ℕ → List sequences.Placed) → AreSigns files (map (λ s. s.items) signs.now) journal
             → (seq : defs.Sequence) × sequences.IsSequence (record { instance = instance.now; journal = journal }) seq × Indexes (InFiles files) (surviving.reigns instance.now) made seq)) }
         ensures regions { IfOk result (λ made. made.regions ≡ length signs.now) }

@@ -17,8 +17,8 @@ use crate::error::IndexError;
 use crate::place::{NOWHERE, PartPlace};
 use crate::reading::read_transaction;
 use crate::sign::Span;
-use crate::signed_part;
 use crate::signed_part::PartSign;
+use global_defs::limits::MOST_REGIONS;
 use gvn_key::NoMemory;
 use repl_disk::Disk;
 use std::alloc::Global;
@@ -46,7 +46,7 @@ fn part_in(row: &[Option<PartSign>], region: u8) -> Option<PartSign>
 
 /// Whether a region has a part like this one, or needs none.
 fn agrees(row: &[Option<PartSign>], head: &PartSign, region: u8) -> bool
-    requires { region < 8 }
+    requires { region < MOST_REGIONS }
     ensures { result ≡ agrees_by_sign head.now (row_sign row.now region) region }
 {
     if !head.is_in(region) {
@@ -62,7 +62,7 @@ fn agrees(row: &[Option<PartSign>], head: &PartSign, region: u8) -> bool
 fn all_agree(row: &[Option<PartSign>], head: &PartSign) -> bool
     ensures { result ≡ list_all (λ r. agrees_by_sign head.now (row_sign row.now r) r) REGIONS }
 {
-    for region in 0..signed_part::REGIONS {
+    for region in 0..MOST_REGIONS {
         if !agrees(row, head, region) {
             return false;
         }
@@ -72,7 +72,7 @@ fn all_agree(row: &[Option<PartSign>], head: &PartSign) -> bool
 
 /// How the positions of a region's items lie, where it's in the mask of this part; those of no item else.
 fn span_in(row: &[Option<PartSign>], head: &PartSign, region: u8) -> Span
-    requires { region < 8 }
+    requires { region < MOST_REGIONS }
     ensures { result ≡ span_at head.now.mask (row_sign row.now) region }
 {
     let nothing = Span {
@@ -109,7 +109,7 @@ fn are_in_order(row: &[Option<PartSign>], head: &PartSign) -> bool
         → is_at head.now.count (next_after 0 (items_in head.now.mask part)) ≡ true }
 {
     let mut next = 0;
-    for region in 0..signed_part::REGIONS {
+    for region in 0..MOST_REGIONS {
         let Some(after) = position_after(next, span_in(row, head, region)) else {
             return false;
         };
@@ -124,7 +124,7 @@ fn has_count(row: &[Option<PartSign>], head: &PartSign) -> bool
         → result ≡ (length (items_in head.now.mask part) == head.now.count) }
 {
     let mut left = head.count;
-    for region in 0..signed_part::REGIONS {
+    for region in 0..MOST_REGIONS {
         let many = span_in(row, head, region).many;
         if many > left {
             return false;
@@ -154,7 +154,7 @@ fn told_by(row: &[Option<PartSign>], head: &PartSign) -> Told
 
 /// Whether a region's part is the only one of its entry, with all positions in order.
 pub(crate) fn is_alone(head: &PartSign, region: u8) -> bool
-    requires { region < 8 }
+    requires { region < MOST_REGIONS }
     ensures { IsTrue result → IsAlone head.now region }
 {
     head.mask == 1 << region
@@ -165,7 +165,7 @@ pub(crate) fn is_alone(head: &PartSign, region: u8) -> bool
 
 /// What the signs of a row tell of the entry by its part in a region.
 fn told_in(row: &[Option<PartSign>], region: u8) -> Told
-    requires { region < 8 }
+    requires { region < MOST_REGIONS }
     ensures { (files : Files) (n : ℕ) (part : ℕ → Option journal.Part) → AreSigned files row.now n part → (stamp : defs.Stamp) → IsTold result (entry_in part stamp region) }
 {
     match part_in(row, region) {
@@ -183,7 +183,7 @@ fn told_in(row: &[Option<PartSign>], region: u8) -> Told
 fn told_at(row: &[Option<PartSign>]) -> Told
     ensures { (files : Files) (n : ℕ) (part : ℕ → Option journal.Part) → AreSigned files row.now n part → (stamp : defs.Stamp) → IsTold result (entry_among part stamp REGIONS) }
 {
-    for region in 0..signed_part::REGIONS {
+    for region in 0..MOST_REGIONS {
         match told_in(row, region) {
             Told::Broken => {}
             told => return told,
@@ -228,7 +228,7 @@ pub fn is_complete<D: Disk>(
     number: u64,
     regions: u8,
 ) -> Result<bool, IndexError>
-    requires few { regions ≤ 8 }
+    requires few { regions ≤ MOST_REGIONS }
     ensures complete { IfOk result (λ complete. IfSome (D.disk disk.old).content (λ files. (part : ℕ → Option journal.Part) → AreSigned files row.now number part → ((r : ℕ) → regions ≤ r → part r ≡ None)
         → (stamp : defs.Stamp) → complete ≡ is_some (entry_among part stamp REGIONS))) }
     ensures outside { (file offset : ℕ) → IsErrOf result (IndexError.NotAFile file offset) → IfSome (D.disk disk.old).content (λ files. (part : ℕ → Option journal.Part) → AreSigned files row.now number part → ((r : ℕ) → regions ≤ r → part r ≡ None) → ⊥) }

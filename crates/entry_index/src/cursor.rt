@@ -1,5 +1,6 @@
 //! A region's journals, read on from where they were left.
 ghost use Rattle.std.specs.Prelude.{◌≡◌, ◌≤◌, ◌<◌, ◌+◌, ℕ, List, [], IfOk, IfSome, OnOk, IsErrOf, IsTrue, Some, None};
+ghost use Rattle.global_defs.specs.declared.limits.TheConstants.{MOST_GENERATIONS, MOST_REGIONS};
 ghost use Rattle.disk_defs.specs.Disk.{Files, Reads, MayFailUncounted};
 ghost use Rattle.journal_defs.specs.Instance as instances;
 ghost use Rattle.journal_defs.specs.Sequence.{Placed, part_of};
@@ -41,8 +42,8 @@ impl Cursor {
         region: u8,
         last: u32,
     ) -> Result<Cursor, IndexError>
-        requires region { region < 8 }
-        requires last { last ≤ 65535 }
+        requires region { region < MOST_REGIONS }
+        requires last { last ≤ MOST_GENERATIONS }
         ensures ready { IfOk result (λ made. IsReady (D.disk disk.new).content region last made.reader) }
         ensures begun { IfOk result (λ made. IfSome (D.disk disk.old).content (λ files. (instance : List instances.InstanceRecord) (lowest : ℕ) → IsOnWay files instance lowest 0 made [])) }
         ensures told { IfOk result (λ made. (files : Files) (instance : List instances.InstanceRecord) → IsTold files instance 0 made []) }
@@ -212,7 +213,7 @@ impl Cursor {
 
     /// Whether what waits is the part of the entry with this number, which has no other one, in this region.
     pub fn has_alone(&self, number: u64, region: u8) -> bool
-        requires { region < 8 }
+        requires { region < MOST_REGIONS }
         ensures { IsTrue result → (s : PartSign) × (if_numbered number self.now.waiting ≡ Some s) × IsAlone s region }
     {
         match &self.waiting {

@@ -1,5 +1,6 @@
 //! A region's journals over its generations, by their signs.
 ghost use Rattle.std.specs.Prelude.{◌≡◌, ◌⊎◌, ◌≤◌, ◌<◌, ◌↔◌, ℕ, List, IfOk, IfSome, OnOk, IsErrOf, IsTrue};
+ghost use Rattle.global_defs.specs.declared.limits.TheConstants.{MOST_GENERATIONS, MOST_REGIONS};
 ghost use Rattle.disk_defs.specs.Disk.{Image, IsDurable, AtEachMoment, Reads, MayFailUncounted};
 ghost use Rattle.disk_defs.specs.Frames.{Only, OthersStay};
 ghost use Rattle.journal_defs.specs.Numbers.{journal_file};
@@ -159,8 +160,8 @@ fn index_generation<D: Disk>(
     previous: u32,
     into: &mut Vec<PlacedSign>,
 ) -> Result<u32, JournalError>
-    requires region { region < 8 }
-    requires generation { generation ≤ 65535 }
+    requires region { region < MOST_REGIONS }
+    requires generation { generation ≤ MOST_GENERATIONS }
     ensures read { IfOk result (λ began. IfSome (D.disk disk.old).content (λ files. HasNewerSigns files region generation previous into.old.items into.new.items began)) }
     ensures began { IfOk result (λ began. (began ≡ previous) ⊎ (began ≡ generation)) }
     ensures durable { OnOk result (IfSome (D.disk disk.old).content (λ files. IsDurable (D.disk disk.new) (journal_file generation region) (files (journal_file generation region)))) }
@@ -200,8 +201,8 @@ pub fn index_generations<D: Disk>(
     region: u8,
     last: u32,
 ) -> Result<RegionSigns, GenerationsError>
-    requires region { region < 8 }
-    requires last { last ≤ 65535 }
+    requires region { region < MOST_REGIONS }
+    requires last { last ≤ MOST_GENERATIONS }
     ensures read { IfOk result (λ made. IfSome (D.disk disk.old).content (λ files. (journal : List Placed) × IsJournal files region last made.last_began journal × AreSignsOf files region made.signs.items journal × AreInOrder made.signs.items journal)) }
     ensures began { IfOk result (λ made. made.last_began ≤ last) }
     ensures durable { OnOk result (IfSome (D.disk disk.old).content (AreDurable (D.disk disk.new) region last)) }

@@ -1,6 +1,7 @@
 //! Indexes of entries.
 ghost use Rattle.std.specs.Prelude.{◌≡◌, ◌⊎◌, ◌+◌, ◌-◌, ◌*◌, ◌/◌, ◌≤◌, ◌<◌, ◌++◌, ℕ, length, take, drop, slice_get, None, IfOk, IfSome, OnOk, OnErr, IsErrOf};
 ghost use Rattle.std.specs.Option.{option_map};
+ghost use Rattle.global_defs.specs.declared.limits.TheConstants.{MOST_REGIONS};
 ghost use Rattle.disk_defs.specs.Disk.{Reads, MayFailUncounted};
 ghost use Rattle.global_defs.specs.Entry as defs;
 ghost use Rattle.gvn_model.specs.Entries.{entry_value};
@@ -78,7 +79,7 @@ impl EntryIndex {
     ) -> Result<Option<Entry>, IndexError>
         requires starts { AreStarts history.now starts.now }
         requires first { 1 ≤ number }
-        requires regions { self.now.regions ≤ 8 }
+        requires regions { self.now.regions ≤ MOST_REGIONS }
         ensures entry { IfOk result (λ found. IfSome (D.disk disk.old).content (λ files. (seq : defs.Sequence) → Indexes (InFiles files) history.now self.now seq
             → option_map entry_value found ≡ slice_get seq (number - 1))) }
         ensures number { IfOk result (λ found. IfSome found (λ e. e.number ≡ number)) }

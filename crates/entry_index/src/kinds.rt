@@ -5,17 +5,9 @@ ghost use Rattle.entry_index.specs.Fields.{Reads, truth};
 ghost use Rattle.entry_index.specs.Telling.{TellsSign};
 
 use crate::sign::Sign;
-use crate::signed_part::LAST_GENERATION;
+use global_defs::limits::{BLOCK, MOST_GENERATIONS, MOST_REGIONS, NUMBERS_END};
+use jnl_record::VERSION;
 use repl_fields::{read_u8, read_u32, read_u64};
-
-/// The only version of the layout.
-const VERSION: u8 = 1;
-
-/// How many regions there can be.
-const MOST_REGIONS: u8 = 8;
-
-/// How many bytes a block has.
-const BLOCK: usize = 4096;
 
 /// A byte that is 1 for true and 0 for false, and what follows it.
 fn read_flag(bytes: &[u8]) -> Option<(bool, &[u8])>
@@ -39,7 +31,7 @@ pub fn start_sign(bytes: &[u8]) -> Option<Sign>
     let (previous, rest) = read_u32(rest)?;
     if version != VERSION
         || MOST_REGIONS <= region
-        || LAST_GENERATION < generation
+        || MOST_GENERATIONS < generation
         || generation <= previous
     {
         return None;
@@ -62,7 +54,7 @@ pub fn mark_sign(bytes: &[u8]) -> Option<Sign>
     let (closing, rest) = read_flag(bytes)?;
     let (number, rest) = read_u64(rest)?;
     let (blocks, rest) = read_u32(rest)?;
-    if number >= 1 << 40 {
+    if number >= NUMBERS_END {
         return None;
     }
     if !rest.is_empty() {

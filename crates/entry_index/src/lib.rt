@@ -47,5 +47,4 @@ pub use placed::PlacedSign;
 pub use placed_record::read_placed;
 pub use side_by_side::{FoundJournals, look_side_by_side};
 pub use sign::{Sign, Span};
-pub use signed_part::LAST_GENERATION;
 pub use telling::read_sign;

@@ -10,11 +10,11 @@ use jnl_file::JournalError;
 use repl_disk::Disk;
 use std::alloc::Global;
 
+/// The greatest length of a body in bytes.
+pub const LONGEST: u64 = global_defs::limits::LONGEST_BODY as u64;
+
 /// How many bytes are read at once, where the file has them and no body is longer.
 const PIECE: u64 = 1 << 11;
-
-/// The greatest length of a body in bytes.
-pub const LONGEST: u64 = 1 << 20;
 
 /// Past this place no body is told by what is at hand.
 const FARTHEST: u64 = 1 << 63;

@@ -1,5 +1,6 @@
 //! How far a region's journals are read.
 ghost use Rattle.std.specs.Prelude.{◌≡◌, ◌≢◌, ◌≤◌, ◌<◌, ℕ, List, [], IfOk, IfSome, OnOk, IsErrOf, Some};
+ghost use Rattle.global_defs.specs.declared.limits.TheConstants.{MOST_GENERATIONS, MOST_REGIONS};
 ghost use Rattle.disk_defs.specs.Disk.{Files, Reads, MayFailUncounted};
 ghost use Rattle.journal_defs.specs.Numbers.{journal_file};
 ghost use Rattle.journal_defs.specs.Sequence.{Placed};
@@ -101,8 +102,8 @@ impl Reader {
         region: u8,
         last: u32,
     ) -> Result<Reader, IndexError>
-        requires region { region < 8 }
-        requires last { last ≤ 65535 }
+        requires region { region < MOST_REGIONS }
+        requires last { last ≤ MOST_GENERATIONS }
         ensures ready { IfOk result (IsReady (D.disk disk.new).content region last) }
         ensures begun { IfOk result (λ made. IfSome (D.disk disk.old).content (λ files. IsAt files made [])) }
         ensures never { (file offset : ℕ) → IsErrOf result (IndexError.NotAFile file offset) → ⊥ }

@@ -14,7 +14,7 @@ ghost use Rattle.entry_index.specs.Parts.{InFiles, NOWHERE, IsPartAt, AreParts, 
 use crate::error::{IndexError, in_file};
 use crate::place::PartPlace;
 use crate::placed_record::read_placed;
-use crate::signed_part::LAST_GENERATION;
+use global_defs::limits::{MOST_GENERATIONS, MOST_REGIONS};
 use gvn_key::NoMemory;
 use gvn_model::{Items, Origin, Transaction};
 use jnl_file::journal_file;
@@ -89,7 +89,7 @@ fn read_part<D: Disk>(
     number: u64,
     place: PartPlace,
 ) -> Result<Option<ReadPart>, IndexError>
-    requires { region < 8 }
+    requires { region < MOST_REGIONS }
     ensures found { IfOk result (λ found. IfSome (D.disk disk.old).content (λ files. (x : Option journal.Part) → IsPartAt (InFiles files) region number place x → option_map read_value found ≡ x)) }
     ensures outside { (file offset : ℕ) → IsErrOf result (IndexError.NotAFile file offset) → IfSome (D.disk disk.old).content (λ files. (x : Option journal.Part) → IsPartAt (InFiles files) region number place x → ⊥) }
     ensures reads { Reads (D.disk disk.old) (D.disk disk.new) }
@@ -99,7 +99,7 @@ fn read_part<D: Disk>(
     if generation == 0 {
         return Ok(None);
     }
-    if generation > LAST_GENERATION {
+    if generation > MOST_GENERATIONS {
         return Err(IndexError::NotAFile {
             file: u32::MAX,
             offset,
@@ -131,7 +131,7 @@ fn read_parts<D: Disk>(
     row: &[PartPlace],
     number: u64,
 ) -> Result<Vec<Option<ReadPart>>, IndexError>
-    requires { length row.now ≤ 8 }
+    requires { length row.now ≤ MOST_REGIONS }
     ensures read { IfOk result (λ made. IfSome (D.disk disk.old).content (λ files. (part : ℕ → Option journal.Part) → AreParts (InFiles files) number row.now part
         → (r : ℕ) → get_or (map (option_map read_value) made.items) r None ≡ part r)) }
     ensures outside { (file offset : ℕ) → IsErrOf result (IndexError.NotAFile file offset) → IfSome (D.disk disk.old).content (λ files. (part : ℕ → Option journal.Part) → AreParts (InFiles files) number row.now part → ⊥) }
@@ -183,7 +183,7 @@ pub fn read_transaction<D: Disk>(
     row: &[PartPlace],
     number: u64,
 ) -> Result<Option<Transaction>, IndexError>
-    requires { length row.now ≤ 8 }
+    requires { length row.now ≤ MOST_REGIONS }
     ensures found { IfOk result (λ found. IfSome (D.disk disk.old).content (λ files. (part : ℕ → Option journal.Part) → AreParts (InFiles files) number row.now part
         → (stamp : defs.Stamp) → entry_among part stamp REGIONS ≡ option_map (stamped stamp) found)) }
     ensures outside { (file offset : ℕ) → IsErrOf result (IndexError.NotAFile file offset) → IfSome (D.disk disk.old).content (λ files. (part : ℕ → Option journal.Part) → AreParts (InFiles files) number row.now part → ⊥) }
@@ -200,7 +200,10 @@ pub fn read_transaction<D: Disk>(
 pub fn first_place(row: &[PartPlace]) -> (u32, u64) {
     for region in 0..row.len() {
         let place = row[region];
-        if region < 8 && place.generation >= 1 && place.generation <= LAST_GENERATION {
+        if region < usize::from(MOST_REGIONS)
+            && place.generation >= 1
+            && place.generation <= MOST_GENERATIONS
+        {
             return (journal_file(region as u8, place.generation), place.offset);
         }
     }

@@ -1,5 +1,6 @@
 //! The journals of all regions of a site, looked through side by side.
 ghost use Rattle.std.specs.Prelude.{◌≡◌, ◌<◌, ◌≤◌, ◌+◌, ◌*◌, ◌^◌, ◌∷◌, ◌++◌, ℕ, List, [], map, length, get_or, Option, Some, None, true, if◌then◌else◌, IfOk, IfSome, OnOk, IsErrOf, IsTrue};
+ghost use Rattle.global_defs.specs.declared.limits.TheConstants.{MOST_GENERATIONS, MOST_REGIONS};
 ghost use Rattle.disk_defs.specs.Disk.{Files, Image, IsDurable, AtEachMoment, Reads, MayFailUncounted};
 ghost use Rattle.disk_defs.specs.Frames.{Only, OthersStay};
 ghost use Rattle.global_defs.specs.Entry as defs;
@@ -26,6 +27,7 @@ use crate::place::PartPlace;
 use crate::placed::PlacedSign;
 use crate::signed_part::PartSign;
 use gated_file::{GateError, sync_file};
+use global_defs::limits::NUMBERS_END;
 use gvn_key::NoMemory;
 use gvn_model::Reigns;
 use instance_file::InstanceRecords;
@@ -33,9 +35,6 @@ use jnl_file::journal_file;
 use mupip_recover::{Cuts, starts_of};
 use repl_disk::Disk;
 use std::alloc::Global;
-
-/// Entries have lower numbers than this.
-const TOO_MANY: u64 = 1 << 40;
 
 /// What was found in a site's journals.
 #[derive(Debug, Drop)]
@@ -68,8 +67,8 @@ fn sync_one<D: Disk>(disk: &mut D, file: u32) -> Result<(), IndexError>
 
 /// Syncs the journals of a region up to a generation.
 fn sync_region<D: Disk>(disk: &mut D, region: u8, last: u32) -> Result<(), IndexError>
-    requires region { region < 8 }
-    requires last { last ≤ 65535 }
+    requires region { region < MOST_REGIONS }
+    requires last { last ≤ MOST_GENERATIONS }
     ensures durable { OnOk result (IfSome (D.disk disk.old).content (AreDurable (D.disk disk.new) region last)) }
     ensures content { (D.disk disk.new).content ≡ (D.disk disk.old).content }
     ensures any_moment { AtEachMoment (D.disk disk.old) (D.disk disk.new) (Image (D.disk disk.old)) }
@@ -85,8 +84,8 @@ fn sync_region<D: Disk>(disk: &mut D, region: u8, last: u32) -> Result<(), Index
 
 /// Syncs the journals of the first regions up to a generation.
 fn sync_all<D: Disk>(disk: &mut D, regions: u8, last: u32) -> Result<(), IndexError>
-    requires regions { regions ≤ 8 }
-    requires last { last ≤ 65535 }
+    requires regions { regions ≤ MOST_REGIONS }
+    requires last { last ≤ MOST_GENERATIONS }
     ensures durable { OnOk result (IfSome (D.disk disk.old).content (λ files. (r : ℕ) → r < regions → AreDurable (D.disk disk.new) r last files)) }
     ensures content { (D.disk disk.new).content ≡ (D.disk disk.old).content }
     ensures any_moment { AtEachMoment (D.disk disk.old) (D.disk disk.new) (Image (D.disk disk.old)) }
@@ -115,8 +114,8 @@ fn begin_all<D: Disk>(
     regions: u8,
     last: u32,
 ) -> Result<Vec<Cursor>, IndexError>
-    requires regions { regions ≤ 8 }
-    requires last { last ≤ 65535 }
+    requires regions { regions ≤ MOST_REGIONS }
+    requires last { last ≤ MOST_GENERATIONS }
     ensures many { IfOk result (λ made. length made.items ≡ regions) }
     ensures ready { IfOk result (λ made. AreReady (D.disk disk.new).content last made.items) }
     ensures begun { IfOk result (λ made. IfSome (D.disk disk.old).content (λ files. (instance : List instances.InstanceRecord) (lowest : ℕ) → AreOnWay files instance lowest 0 made.items (λ r. []))) }
@@ -212,8 +211,8 @@ fn push_waiting(
 
 /// Whether the entry with this number has a part that is the only one of its entry. Then it's complete.
 fn some_alone(cursors: &[Cursor], number: u64) -> bool
-    requires { length cursors.now ≤ 8 }
-    ensures { IsTrue result → (r : ℕ) × (s : PartSign) × (r < 8) × (row_sign (map (λ c. if_numbered number c.waiting) cursors.now) r ≡ Some s) × IsAlone s r }
+    requires { length cursors.now ≤ MOST_REGIONS }
+    ensures { IsTrue result → (r : ℕ) × (s : PartSign) × (r < MOST_REGIONS) × (row_sign (map (λ c. if_numbered number c.waiting) cursors.now) r ≡ Some s) × IsAlone s r }
 {
     for region in 0..cursors.len() {
         if cursors[region].has_alone(number, region as u8) {
@@ -234,7 +233,7 @@ fn add_next<D: Disk>(
     number: u64,
     made: &mut EntryIndex,
 ) -> Result<bool, IndexError>
-    requires few { made.old.regions ≤ 8 }
+    requires few { made.old.regions ≤ MOST_REGIONS }
     requires count { length cursors.now ≡ made.old.regions }
     ensures added { IfOk result (λ more. IfSome (D.disk disk.old).content (λ files. (part : ℕ → Option journal.Part) → AreSigned files (map (λ c. if_numbered number c.waiting) cursors.now) number part → ((r : ℕ) → made.old.regions ≤ r → part r ≡ None)
         → (rs : List defs.Reign) → AreStarts rs starts.now → IsNext files rs number part more made.old.places.items made.new.places.items)) }
@@ -276,7 +275,7 @@ fn add_all<D: Disk>(
     made: &mut EntryIndex,
 ) -> Result<Option<u64>, IndexError>
     requires cuts { (rs : List instances.InstanceRecord) × AreCuts rs cuts.now }
-    requires few { made.old.regions ≤ 8 }
+    requires few { made.old.regions ≤ MOST_REGIONS }
     requires many { length cursors.old.items ≡ made.old.regions }
     requires none { length made.old.places.items ≡ 0 }
     requires ready { (last : ℕ) × AreReady (D.disk disk.old).content last cursors.old.items }
@@ -284,14 +283,14 @@ fn add_all<D: Disk>(
     ensures many { IfOk result (λ found. IfSome found (λ _. length cursors.new.items ≡ length cursors.old.items)) }
     ensures ready { IfOk result (λ found. IfSome found (λ _. (last : ℕ) → AreReady (D.disk disk.old).content last cursors.old.items → AreReady (D.disk disk.new).content last cursors.new.items)) }
     ensures rows { IfOk result (λ found. IfSome found (λ n. length made.new.places.items ≡ made.new.regions * n)) }
-    ensures low { IfOk result (λ found. IfSome found (λ n. n < 2 ^ 40)) }
+    ensures low { IfOk result (λ found. IfSome found (λ n. n < NUMBERS_END)) }
     ensures regions { made.new.regions ≡ made.old.regions }
     ensures never { (file offset : ℕ) → IsErrOf result (IndexError.NotAFile file offset) → ⊥ }
     ensures reads { Reads (D.disk disk.old) (D.disk disk.new) }
     ensures faults { MayFailUncounted (D.disk disk.old).faults (D.disk disk.new).faults (IsErrOf result IndexError.Failed) }
 {
     let mut row = Vec::new(alloc);
-    for done in 0..TOO_MANY {
+    for done in 0..NUMBERS_END {
         if !read_all_on(alloc, disk, cuts, done, lowest, cursors)? {
             return Ok(None);
         }
@@ -346,8 +345,8 @@ pub fn look_side_by_side<D: Disk>(
     lowest: u64,
 ) -> Result<Option<FoundJournals>, IndexError>
     requires history { history.now ≡ surviving.reigns instance.now }
-    requires regions { regions ≤ 8 }
-    requires last { last ≤ 65535 }
+    requires regions { regions ≤ MOST_REGIONS }
+    requires last { last ≤ MOST_GENERATIONS }
     ensures found { IfOk result (λ found. IfSome found (λ made. IfSome (D.disk disk.old).content (λ files. (journal : ℕ → List Placed)
         × HaveFound files instance.now lowest regions last (map (λ s. s.items) made.signs.items) made.last_began.items made.entries journal))) }
     ensures signs { IfOk result (λ found. IfSome found (λ made. length made.signs.items ≡ regions)) }

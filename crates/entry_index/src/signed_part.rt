@@ -1,18 +1,14 @@
 //! What a sign says of the part of an entry.
 ghost use Rattle.std.specs.Prelude.{◌≡◌, ◌<◌};
+ghost use Rattle.global_defs.specs.declared.limits.TheConstants.{MOST_REGIONS};
 ghost use Rattle.journal_defs.specs.Sequence.{in_mask};
 ghost use Rattle.entry_index.specs.Signs.{part_sign_in, is_like_sign};
 
 use crate::place::PartPlace;
 use crate::placed::PlacedSign;
 use crate::sign::{Sign, Span};
+use global_defs::limits::MOST_GENERATIONS;
 use gvn_model::Origin;
-
-/// How many regions there may be.
-pub const REGIONS: u8 = 8;
-
-/// The last generation that there may be.
-pub const LAST_GENERATION: u32 = 65535;
 
 /// What a sign says of the part of an entry, and where that stands.
 #[derive(Clone, Copy, Debug)]
@@ -39,7 +35,7 @@ pub fn part_sign(placed: &PlacedSign) -> Option<PartSign>
         offset,
         sign,
     } = *placed;
-    if generation == 0 || generation > LAST_GENERATION {
+    if generation == 0 || generation > MOST_GENERATIONS {
         return None;
     }
     match sign {
@@ -81,7 +77,7 @@ impl PartSign {
 
     /// Whether the entry has a part in a region.
     pub fn is_in(&self, region: u8) -> bool
-        requires { region < 8 }
+        requires { region < MOST_REGIONS }
         ensures { result ≡ in_mask self.now.mask region }
     {
         self.mask & (1 << region) != 0

@@ -4,11 +4,9 @@ ghost use Rattle.std.specs.Option.{option_map};
 ghost use Rattle.repl_fields.specs.Reading.{ReadsField};
 ghost use Rattle.entry_index.specs.Fields.{Skips, key, value, pair, update};
 
+use global_defs::limits::LONGEST_VALUE;
 use gvn_key::is_key;
 use repl_fields::{read_long, read_short, read_u8};
-
-/// How many bytes a value may have.
-const LONGEST_VALUE: usize = 1500;
 
 /// What follows a key behind its length.
 #[inline(always)]

@@ -1,5 +1,6 @@
 //! Indexes built from the signs of drawn sites, beside the sequences that their records lead to.
 ghost use Rattle.std.specs.Prelude.{◌≡◌, ◌<◌, ◌≤◌};
+ghost use Rattle.global_defs.specs.declared.limits.TheConstants.{MOST_REGIONS};
 ghost use Rattle.journal_defs.specs.Surviving as surviving;
 
 use crate::journals::{Journal, Worked, empty};
@@ -72,7 +73,7 @@ fn drawn_journal(
     shapes: &[u64; 4],
     turns: u8,
 ) -> Journal
-    requires { region < 8 }
+    requires { region < MOST_REGIONS }
 {
     let mut journal = empty(alloc);
     for turn in 0..turns {
@@ -121,7 +122,7 @@ fn told_by(
     history: &Reigns,
     index: &EntryIndex,
 ) -> Bytes
-    requires { index.now.regions ≤ 8 }
+    requires { index.now.regions ≤ MOST_REGIONS }
 {
     let starts = starts_of(alloc, history.as_slice()).expect(rt, "memory");
     let mut text = Bytes::new(alloc);

@@ -1,5 +1,6 @@
 //! Journals of worked bytes, with their records and signs beside them.
 ghost use Rattle.std.specs.Prelude.{◌≡◌, ◌<◌, ◌≤◌, ◌+◌, length};
+ghost use Rattle.global_defs.specs.declared.limits.TheConstants.{MOST_GENERATIONS, MOST_REGIONS};
 
 use entry_index::{PlacedSign, read_sign};
 use gvn_key::Bytes;
@@ -99,8 +100,8 @@ impl Journal {
         generation: u32,
         part: &Worked,
     )
-        requires region { region < 8 }
-        requires generation { generation ≤ 65535 }
+        requires region { region < MOST_REGIONS }
+        requires generation { generation ≤ MOST_GENERATIONS }
     {
         let body = body_of(rt, alloc, part);
         let long = u32::try_from(body.len()).expect(rt, "a short body");

@@ -1,5 +1,6 @@
 //! Entries in two regions on a disk in memory: what their journals have of them, and what a crash leaves.
 ghost use Rattle.std.specs.Prelude.{◌≡◌, ◌<◌, [], ◌∷◌, length, Some, IfSome, IfOk, OnOk};
+ghost use Rattle.global_defs.specs.declared.limits.TheConstants.{MOST_REGIONS};
 ghost use Rattle.disk_defs.specs.Frames.{Only, OthersStay};
 ghost use Rattle.disk_defs.specs.Gates.{records};
 ghost use Rattle.journal_defs.specs.Numbers.{journal_file};
@@ -23,7 +24,7 @@ use tp_commit::{PartRecords, entry_records};
 
 /// The journal of a region in generation 1, new.
 fn begin<D: Disk>(alloc: Global, disk: &mut D, region: u8) -> Result<RegionJournal, JournalError>
-    requires region { region < 8 }
+    requires region { region < MOST_REGIONS }
     requires empty { IfSome (D.disk disk.old).content (λ files. records (files (journal_file 1 region)) ≡ Some []) }
     ensures open { IfOk result (λ made. IsOpen (D.disk disk.new) 1 HasSyncs region made) }
     ensures frame { OthersStay (Only (journal_file 1 region)) (D.disk disk.old) (D.disk disk.new) }
@@ -200,7 +201,7 @@ fn write_record(text: &mut Bytes, what: &JnlRecord) -> Result<(), NoMemory> {
 
 /// The records of a region's journal, each with a semicolon behind it.
 fn read_text<D: Disk>(alloc: Global, disk: &mut D, region: u8) -> Result<Bytes, Fail>
-    requires { region < 8 }
+    requires { region < MOST_REGIONS }
 {
     let read = read_generations(alloc, disk, region, 1)?;
     let mut text = Bytes::new(alloc);

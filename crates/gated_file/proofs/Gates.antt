@@ -4,6 +4,7 @@ use Rattle.std.proofs.lemmas.Bool.Decides.{nat_tests}
 use Rattle.std.proofs.lemmas.List.{drop_more, drop-drop}
 use Rattle.std.proofs.lemmas.Nat.{from_be_bytes-to_be_bytes_4}
 use Rattle.std.specs.Int.{from_be_bytes, to_be_bytes, w32}
+use Rattle.global_defs.specs.declared.limits.TheConstants.{LONGEST_BODY}
 use Rattle.disk_defs.specs.Disk.{Files}
 use Rattle.disk_defs.specs.Gates.{Body, Open, NoGate, fits, behind_length, behind, gate_of, gate_at, bodies_within, records}
 use Rattle.disk_defs.proofs.Texts.{behind_is, fits_is}
@@ -20,13 +21,13 @@ open_at file at long lt gate =
     let is : get_or file at 0 ≡ 1 = sym (ap (λ (l : List ℕ). get_or l 0 0) (gate ∙ ap (λ (l : List ℕ). take 1 l) split)) in
     at_long file at long ∙ ap gate_of split ∙ ap (λ (g : ℕ). gate_of (g ∷ drop (at + 1) file)) is
 
-pub reads_unfit : (file : List ℕ) (at n : ℕ) (head : List ℕ) → 2 ≤ length file → at < length file → 1 ∷ [] ≡ take 1 (drop at file) → head ≡ take 4 (drop (at + 1) file) → n ≡ from_be_bytes w32 head → ((1 ≤ n) → (n ≤ 1048576) → length file - at < n + 6) → gate_at file at ≡ NoGate
+pub reads_unfit : (file : List ℕ) (at n : ℕ) (head : List ℕ) → 2 ≤ length file → at < length file → 1 ∷ [] ≡ take 1 (drop at file) → head ≡ take 4 (drop (at + 1) file) → n ≡ from_be_bytes w32 head → ((1 ≤ n) → (n ≤ LONGEST_BODY) → length file - at < n + 6) → gate_at file at ≡ NoGate
 reads_unfit file at n head long lt gate head_is n_is unfit =
     let rest = drop (at + 1) file in
     let n_at : from_be_bytes w32 (take 4 rest) ≡ n = ap (λ (l : List ℕ). from_be_bytes w32 l) (sym head_is) ∙ sym n_is in
     open_at file at long lt gate ∙ ap (λ (m : ℕ). behind_length m rest) n_at ∙ ap (λ (b : Bool). cond b (Open (take n (drop 4 rest)) (drop (4 + n) rest)) NoGate) (no_fit n rest (λ low high. omega (arith, unfit low high, length-drop (at + 1) file, lt)))
   where
-    no_fit : (m : ℕ) (xs : List ℕ) → ((1 ≤ m) → (m ≤ 1048576) → length xs < m + 5) → fits m xs ≡ false
+    no_fit : (m : ℕ) (xs : List ℕ) → ((1 ≤ m) → (m ≤ LONGEST_BODY) → length xs < m + 5) → fits m xs ≡ false
     no_fit m xs short = grind (arith, nat_tests)
 
 pub reads_short : (file : List ℕ) (at : ℕ) → 2 ≤ length file → at < length file → 1 ∷ [] ≡ take 1 (drop at file) → length file - at < 6 → gate_at file at ≡ NoGate
@@ -48,11 +49,11 @@ was_short file at size gate long size_is inside gate_is opened short =
     reads_short file at (omega (arith, long, size_is)) (omega (arith, inside, size_is)) (gate_byte gate (drop at file) opened gate_is) (omega (arith, short, size_is))
 
 pub was_unfit : (file : List ℕ) (at size n : ℕ) (gate head : List ℕ) → 2 ≤ size → size ≡ length file → at < size → gate ≡ take 1 (drop at file) → get_or gate 0 0 ≡ 1 → head ≡ take 4 (drop (at + 1) file) → n ≡ from_be_bytes w32 head
-    → (1 ≤ n → n ≤ 1048576 → size - at < n + 6) → gate_at file at ≡ NoGate
+    → (1 ≤ n → n ≤ LONGEST_BODY → size - at < n + 6) → gate_at file at ≡ NoGate
 was_unfit file at size n gate head long size_is inside gate_is opened head_is n_is unfit =
     reads_unfit file at n head (omega (arith, long, size_is)) (omega (arith, inside, size_is)) (gate_byte gate (drop at file) opened gate_is) head_is n_is (λ low high. omega (arith, unfit low high, size_is))
 
-pub was_open : (file : List ℕ) (at size n : ℕ) (gate head : List ℕ) → size ≡ length file → gate ≡ take 1 (drop at file) → get_or gate 0 0 ≡ 1 → head ≡ take 4 (drop (at + 1) file) → to_be_bytes w32 n ≡ head → n ≢ 0 → n ≤ 1048576 → n + 6 ≤ size - at
+pub was_open : (file : List ℕ) (at size n : ℕ) (gate head : List ℕ) → size ≡ length file → gate ≡ take 1 (drop at file) → get_or gate 0 0 ≡ 1 → head ≡ take 4 (drop (at + 1) file) → to_be_bytes w32 n ≡ head → n ≢ 0 → n ≤ LONGEST_BODY → n + 6 ≤ size - at
     → HasBody file at n
 was_open file at size n gate head size_is gate_is opened head_is spelled not_zero high next = record {
   gate = sym (gate_byte gate (drop at file) opened gate_is);

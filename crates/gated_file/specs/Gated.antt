@@ -2,6 +2,7 @@
 use Rattle.std.specs.Prelude.{◌≡◌, ◌≢◌, ◌≤◌, ◌<◌, ℕ, ◌+◌, ◌*◌, ◌^◌, min, true, List, [], ◌++◌, length, Some, IfSome, IsSomeAnd, vec_capacity}
 use Rattle.std.specs.VecDeque.{deque_capacity}
 use Rattle.std.specs.List.{AllByRecursion}
+use Rattle.global_defs.specs.declared.limits.TheConstants.{LONGEST_BODY}
 use Rattle.disk_defs.specs.Disk.{Files, View, Image}
 use Rattle.disk_defs.specs.Gates.{spelled, IsBody, records, Stands}
 use Rattle.gated_file.specs.State.{State, text, IsImage, place, places}
@@ -34,7 +35,7 @@ pub record IsReady (v : View) (g : Gated) : Type 0 where
   pub state : IfSome v.content (λ files. (s : State) × Holds v g s files)
   pub room : v.has_room g.file (2 * g.bodies_left + length g.closed.items + g.syncs_left) (g.bytes_left + 6 * g.bodies_left + length g.closed.items)
   pub gates : length g.closed.items + g.bodies_left ≤ deque_capacity g.closed
-  pub buffer : min g.bytes_left 1048576 + 5 ≤ vec_capacity g.buffer
+  pub buffer : min g.bytes_left LONGEST_BODY + 5 ≤ vec_capacity g.buffer
   pub places : g.end + g.bytes_left + 5 * g.bodies_left < 2 ^ 64
 
 -- the same room is left for bodies, their bytes and syncs

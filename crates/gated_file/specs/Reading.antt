@@ -1,6 +1,7 @@
 -- Reading a gated file from a place on.
 use Rattle.std.specs.Prelude.{◌≡◌, ◌≤◌, ◌<◌, ℕ, ◌+◌, List, ◌++◌, [], ◌∷◌, length, take, drop, Option, Some, None}
 use Rattle.std.specs.Int.{to_be_bytes, w32}
+use Rattle.global_defs.specs.declared.limits.TheConstants.{LONGEST_BODY}
 use Rattle.disk_defs.specs.Gates.{Body, Open, Shut, gate_at}
 use Rattle.disk_defs.specs.OutsideGates.{LeadsTo}
 
@@ -14,7 +15,7 @@ pub record HasBody (file : List ℕ) (at n : ℕ) : Type 0 where
   pub gate : take 1 (drop at file) ≡ 1 ∷ []
   pub head : take 4 (drop (at + 1) file) ≡ to_be_bytes w32 n
   pub not_empty : 1 ≤ n
-  pub not_long : n ≤ 1048576
+  pub not_long : n ≤ LONGEST_BODY
   pub inside : at + n + 6 ≤ length file
 
 -- a body of this length behind an open gate, or a closed gate

@@ -1,5 +1,6 @@
 //! A gated file that is open for calls.
 ghost use Rattle.std.specs.Prelude.{◌≡◌, ◌≤◌, ◌<◌, ◌+◌, ◌*◌, ◌++◌, [], ◌∷◌, List, length, IsTrue, IfOk, OnOk, OnErr, IsErrOf, vec_capacity};
+ghost use Rattle.global_defs.specs.declared.limits.TheConstants.{LONGEST_BODY};
 ghost use Rattle.disk_defs.specs.Disk.{Image, AtEachMoment, HasCause};
 ghost use Rattle.disk_defs.specs.Frames.{Only, OnlyOn, OthersStay};
 ghost use Rattle.disk_defs.specs.Gates.{Body, framed, Stands};
@@ -10,11 +11,11 @@ use repl_disk::Disk;
 use std::alloc::Global;
 use std::collections::VecDeque;
 
+/// The greatest length of a body in bytes.
+const LONGEST: u64 = global_defs::limits::LONGEST_BODY as u64;
+
 /// At most so many bodies are reserved in one call.
 const MOST_BODIES: u32 = 1 << 30;
-
-/// The greatest length of a body in bytes.
-const LONGEST: u64 = 1 << 20;
 
 /// No place past this one is used.
 const FARTHEST: u64 = 1 << 59;
@@ -46,7 +47,7 @@ pub struct Gated {
 
 /// Length, body and a closed gate.
 fn fill(buffer: &mut Vec<u8>, body: &[u8])
-    requires short { length body.now ≤ 1048576 }
+    requires short { length body.now ≤ LONGEST_BODY }
     requires room { length body.now + 5 ≤ vec_capacity buffer.old }
     ensures items { buffer.new.items ≡ framed body.now ++ 0 ∷ [] }
     ensures capacity { vec_capacity buffer.old ≤ vec_capacity buffer.new }
@@ -120,7 +121,7 @@ impl Gated {
     /// Appends a body behind a closed gate, and answers where that gate stands.
     pub fn append_body<D: Disk>(&mut self, disk: &mut D, body: &[u8]) -> Result<u64, GateError>
         requires size { 1 ≤ length body.now }
-        requires short { length body.now ≤ 1048576 }
+        requires short { length body.now ≤ LONGEST_BODY }
         requires ready { IsReady (D.disk disk.old) self.old }
         requires room { 1 ≤ self.old.bodies_left }
         requires bytes { length body.now ≤ self.old.bytes_left }

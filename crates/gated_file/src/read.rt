@@ -13,7 +13,7 @@ use std::alloc::Global;
 use std::collections::VecDeque;
 
 /// The greatest length of a body in bytes.
-const LONGEST: u64 = 1 << 20;
+const LONGEST: u64 = global_defs::limits::LONGEST_BODY as u64;
 
 /// The number that four bytes spell, the greatest part first.
 fn big_endian(bytes: [u8; 4]) -> u32

@@ -3,6 +3,7 @@ use Rattle.std.proofs.Common.{◌≡◌, ℕ, suc, zero, ◌≤◌, true, ◌&&�
 use Rattle.std.specs.List.{list_all}
 use Rattle.std.specs.Char.{is_ascii_alphabetic, is_ascii_alphanumeric}
 use Rattle.std.proofs.lemmas.Bool.{and_parts, leb-true, lt-ltb}
+use Rattle.global_defs.specs.declared.limits.TheConstants.{LONGEST_KEY, LONGEST_NAME, MOST_SUBS}
 use Rattle.global_defs.specs.Key.{Key}
 use Rattle.global_defs.specs.Encoded.{encoded}
 use Rattle.global_defs.specs.Valid.{is_name, is_sub, is_key}
@@ -17,10 +18,10 @@ pub record IsValid (key : Key) : Type 0 where
 
 pub valid_parts : (key : Key) → is_key key ≡ true → IsValid key
 valid_parts key h =
-    let a = and_parts (is_name key.name && nat_le (length key.name) 31 && list_all is_sub key.subs && nat_le (length key.subs) 31) (nat_le (length (encoded key)) 255) h in
-    let b = and_parts (is_name key.name && nat_le (length key.name) 31 && list_all is_sub key.subs) (nat_le (length key.subs) 31) a.0 in
-    let d = and_parts (is_name key.name && nat_le (length key.name) 31) (list_all is_sub key.subs) b.0 in
-    let e = and_parts (is_name key.name) (nat_le (length key.name) 31) d.0 in
+    let a = and_parts (is_name key.name && nat_le (length key.name) LONGEST_NAME && list_all is_sub key.subs && nat_le (length key.subs) MOST_SUBS) (nat_le (length (encoded key)) LONGEST_KEY) h in
+    let b = and_parts (is_name key.name && nat_le (length key.name) LONGEST_NAME && list_all is_sub key.subs) (nat_le (length key.subs) MOST_SUBS) a.0 in
+    let d = and_parts (is_name key.name && nat_le (length key.name) LONGEST_NAME) (list_all is_sub key.subs) b.0 in
+    let e = and_parts (is_name key.name) (nat_le (length key.name) LONGEST_NAME) d.0 in
     record {
       name = e.0;
       short = leb-true (length key.name) 31 e.1;

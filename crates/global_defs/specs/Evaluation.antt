@@ -6,6 +6,7 @@ use Rattle.std.specs.Ordering.{eq_by_cmp, is_lt}
 use Rattle.std.specs.Cmp.Lexicographic.{pointwise}
 use Rattle.std.specs.Fmt.{decimal}
 use Rattle.std.specs.FinMap as globals
+use Rattle.global_defs.specs.declared.limits.TheConstants.{MOST_NODES}
 use Rattle.global_defs.specs.Numeral.{integer_of, integer_text, is_counted}
 use Rattle.global_defs.specs.Key.{Key, Sub, key_cmp, sub_cmp, sub_of}
 use Rattle.global_defs.specs.Zwr.{zwr}
@@ -13,10 +14,6 @@ use Rattle.global_defs.specs.NodeText.{sub_text}
 use Rattle.global_defs.specs.Entry.{Update, Globals, is_under, apply}
 use Rattle.global_defs.specs.Entry as update
 use Rattle.global_defs.specs.Jobs.{Statement, Set, Kill, ZKill, Incr, Get, Defined, Order, CheckIs, CheckAtLeast, Job, Cause, Check, NotNum, Full, Answers}
-
--- how many nodes may stand
-abbrev pub MOST_NODES : ℕ
-MOST_NODES = 100000
 
 -- how far a job has come
 pub record Progress : Type 0 where

@@ -4,6 +4,7 @@ use Rattle.std.specs.Prelude.{ℕ, ◌^◌, ◌<◌, ◌≤◌, Bool, if◌then�
 use Rattle.std.specs.Int.{to_be_bytes, w16}
 use Rattle.std.specs.List.{list_all, AllByRecursion}
 use Rattle.std.specs.Char.{is_ascii_alphabetic, is_ascii_alphanumeric}
+use Rattle.global_defs.specs.declared.limits.TheConstants.{LONGEST_SITE_NAME, LONGEST_VALUE, MOST_UPDATERS, MOST_UPDATES, NUMBERS_END}
 use Rattle.global_defs.specs.Entry.{Update, Set, Kill, ZKill, Origin, Transaction, Stamp, Reign}
 use Rattle.global_defs.specs.Valid.{is_key}
 use Rattle.global_defs.specs.Encoded.{encoded}
@@ -27,21 +28,21 @@ spelled_update (ZKill key) = 3 ∷ short (encoded key)
 
 -- a key that there is, and a value of at most 1,500 bytes
 abbrev pub IsUpdate : Update → Type 0
-IsUpdate (Set key value) = IsTrue (is_key key) × (length value ≤ 1500)
+IsUpdate (Set key value) = IsTrue (is_key key) × (length value ≤ LONGEST_VALUE)
 IsUpdate (Kill key) = IsTrue (is_key key)
 IsUpdate (ZKill key) = IsTrue (is_key key)
 
 -- the name of a site, a root or a region: a letter, and then letters and digits, at most 15 characters
 abbrev pub IsSiteName : List ℕ → Type 0
 IsSiteName [] = ⊥
-IsSiteName (b ∷ bs) = (IsTrue (is_ascii_alphabetic b)) × (IsTrue (list_all is_ascii_alphanumeric bs)) × (length bs < 15)
+IsSiteName (b ∷ bs) = (IsTrue (is_ascii_alphabetic b)) × (IsTrue (list_all is_ascii_alphanumeric bs)) × (length bs < LONGEST_SITE_NAME)
 
 -- an entry's number
 abbrev pub IsNumber : ℕ → Type 0
-IsNumber n = (1 ≤ n) × (n < 2 ^ 40)
+IsNumber n = (1 ≤ n) × (n < NUMBERS_END)
 
 pub record IsOrigin (o : Origin) : Type 0 where
-  pub updater : (1 ≤ o.updater) × (o.updater ≤ 64)
+  pub updater : (1 ≤ o.updater) × (o.updater ≤ MOST_UPDATERS)
   pub serial : (1 ≤ o.serial) × (o.serial < 2 ^ 32)
 
 pub record IsStamp (s : Stamp) : Type 0 where
@@ -50,11 +51,11 @@ pub record IsStamp (s : Stamp) : Type 0 where
 
 pub record IsReign (r : Reign) : Type 0 where
   pub stamp : IsStamp r.stamp
-  pub start : (1 ≤ r.start) × (r.start ≤ 2 ^ 40)
+  pub start : (1 ≤ r.start) × (r.start ≤ NUMBERS_END)
 
 -- a transaction of its form: an origin, and 1 to 256 updates
 pub record IsTransaction (t : Transaction) : Type 0 where
   pub origin : IsOrigin t.origin
   pub some : 1 ≤ length t.updates
-  pub few : length t.updates ≤ 256
+  pub few : length t.updates ≤ MOST_UPDATES
   pub each : AllByRecursion IsUpdate t.updates

@@ -1,3 +1,4 @@
+pub mod Counts
 pub mod Numeral
 pub mod Key
 pub mod Encoded
@@ -5,10 +6,13 @@ pub mod Zwr
 pub mod NodeText
 pub mod Valid
 pub mod Pattern
+pub mod Region
 pub mod Entry
 pub mod Jobs
 pub mod Evaluation
 pub mod Serial
+pub mod Rising
+pub mod Beside
 pub mod Prefix
 pub mod Extract
 pub mod Fields

@@ -1,5 +1,6 @@
 -- Serial runs: jobs decided one after another, each appending one entry or none (GT.M: one journal sequence number a transaction).
 use Rattle.std.specs.Prelude.{ℕ, ◌+◌, ◌-◌, ◌^◌, nat_lt, List, [], ◌∷◌, ◌++◌, length, fold, drop, Option, Some, None, get_or, slice_get, set, if◌then◌else◌}
+use Rattle.global_defs.specs.declared.limits.TheConstants.{NUMBERS_END}
 use Rattle.global_defs.specs.Entry.{Update, Stamp, Entry, Sequence, state}
 use Rattle.global_defs.specs.Jobs.{Job, Answers, Cause, SeqLimit}
 use Rattle.global_defs.specs.Evaluation.{Evaluated, Done, eval}
@@ -7,7 +8,7 @@ use Rattle.global_defs.specs.Evaluation as evaluated
 
 -- the greatest length of a sequence
 abbrev pub MOST_ENTRIES : ℕ
-MOST_ENTRIES = 2 ^ 40 - 1
+MOST_ENTRIES = NUMBERS_END - 1
 
 -- the entry of a job of an updater, the job with that serial, under a stamp
 abbrev pub entry_of : Stamp → ℕ → ℕ → List Update → Entry

@@ -2,6 +2,7 @@
 use Rattle.std.specs.Prelude.{ℕ, ◌&&◌, ◌||◌, ◌==◌, Bool, false, not, nat_lt, nat_le, List, [], ◌∷◌, length}
 use Rattle.std.specs.List.{list_all}
 use Rattle.std.specs.Char.{is_ascii_alphabetic, is_ascii_alphanumeric}
+use Rattle.global_defs.specs.declared.limits.TheConstants.{LONGEST_KEY, LONGEST_NAME, MOST_SUBS}
 use Rattle.global_defs.specs.Key.{Key, Sub, Number, Text}
 use Rattle.global_defs.specs.Numeral.{is_number}
 use Rattle.global_defs.specs.NodeText.{number_text}
@@ -18,4 +19,4 @@ is_sub (Number x) = is_number (number_text x)
 is_sub (Text s) = nat_lt 0 (length s) && not (is_number s)
 
 abbrev pub is_key : Key → Bool
-is_key key = is_name key.name && nat_le (length key.name) 31 && list_all is_sub key.subs && nat_le (length key.subs) 31 && nat_le (length (encoded key)) 255
+is_key key = is_name key.name && nat_le (length key.name) LONGEST_NAME && list_all is_sub key.subs && nat_le (length key.subs) MOST_SUBS && nat_le (length (encoded key)) LONGEST_KEY

@@ -3,6 +3,7 @@
 #![tactic(auto)]
 
 mod encodings;
+pub mod limits;
 mod vectors;
 
 pub use encodings::{encoded_keys_collate, sub_bytes_make_subs};

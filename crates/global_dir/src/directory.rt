@@ -1,5 +1,6 @@
 //! Directories.
 ghost use Rattle.std.specs.Prelude.{◌≡◌, ◌↔◌, ◌≤◌, ◌<◌, ℕ, List, true, false, [], map, IfOk, OnOk, OnErr, IsErrOf};
+ghost use Rattle.global_defs.specs.declared.limits.TheConstants.{MOST_REGIONS};
 ghost use Rattle.journal_defs.specs.Directory as defs;
 ghost use Rattle.journal_defs.specs.Directory.{region_of};
 ghost use Rattle.global_defs.specs.Pattern.{ends_in_star, stem, is_pattern};
@@ -21,6 +22,7 @@ pub struct Directory {
 
 impl Model for Directory {
     ghost use Rattle.std.specs.Prelude.{◌≤◌, ◌<◌, map};
+    ghost use Rattle.global_defs.specs.declared.limits.TheConstants.{MOST_REGIONS};
     ghost use Rattle.std.specs.List.{AllByRecursion};
     ghost use Rattle.global_dir.specs.Directory.{Mapping, pattern_value};
 
@@ -28,7 +30,7 @@ impl Model for Directory {
 
     ghost view = { λ d. record { regions = d.regions; patterns = map pattern_value d.patterns.items } };
 
-    ghost invariant = { λ d. (1 ≤ d.regions) × (d.regions ≤ 8) × AllByRecursion (λ p. p.region < d.regions) (map pattern_value d.patterns.items) };
+    ghost invariant = { λ d. (1 ≤ d.regions) × (d.regions ≤ MOST_REGIONS) × AllByRecursion (λ p. p.region < d.regions) (map pattern_value d.patterns.items) };
 }
 
 /// Whether one of the patterns is written so, whatever its region.
@@ -73,7 +75,7 @@ impl Directory {
     /// A directory of so many regions, 1 to 8, and no patterns, so region 0 takes each name. It takes no memory yet.
     pub fn new(alloc: Global, regions: u8) -> Self
         requires some { 1 ≤ regions }
-        requires few { regions ≤ 8 }
+        requires few { regions ≤ MOST_REGIONS }
         ensures regions { result.regions ≡ regions }
         ensures patterns { result.patterns ≡ [] }
     {
@@ -87,7 +89,7 @@ impl Directory {
     pub fn regions(&self) -> u8
         ensures count { result ≡ self.now.regions }
         ensures some { 1 ≤ result }
-        ensures few { result ≤ 8 }
+        ensures few { result ≤ MOST_REGIONS }
         ensures there { (name : List ℕ) → region_of self.now.patterns name < result }
     {
         self.regions

@@ -7,10 +7,8 @@ ghost use Rattle.global_defs.specs.Pattern.{ends_in_star, stem, is_global_name};
 ghost use Rattle.std.specs.Option.{option_map};
 ghost use Rattle.global_dir.specs.Directory.{pattern_value, standing};
 
+use global_defs::limits::LONGEST_NAME;
 use gvn_key::{Bytes, NoMemory};
-
-/// How many characters the name of a global may have.
-const LONGEST_NAME: usize = 31;
 
 /// Whether all bytes are letters and digits.
 fn all_alphanumeric(bytes: &[u8]) -> bool

@@ -18,10 +18,6 @@ mod openings;
 #[cfg(test)]
 mod ran;
 #[cfg(test)]
-mod random;
-#[cfg(test)]
-mod random_table;
-#[cfg(test)]
 mod recoveries;
 #[cfg(test)]
 mod regions;

@@ -5,12 +5,13 @@ use Rattle.std.specs.Prelude.{IfOk, IfSome}
 use Rattle.std.specs.declared.result.Result.{Result}
 use Rattle.std.specs.declared.result.Result.TheVariants.{Ok, Err}
 use Rattle.std.specs.FinMap.{contains_key, insert, len, len-insert}
+use Rattle.global_defs.specs.declared.limits.TheConstants.{MOST_NODES}
 use Rattle.global_defs.proofs.Order.{key_total}
 use Rattle.global_defs.specs.Key.{Key}
 use Rattle.global_defs.specs.Entry as update
 use Rattle.global_defs.specs.Entry.{Update, Globals}
 use Rattle.global_defs.specs.Jobs.{Set, Kill, ZKill, Incr, Get, Defined, Order, CheckIs, CheckAtLeast, Job, Full}
-use Rattle.global_defs.specs.Evaluation.{Progress, Goes, Stops, Done, going, eval, MOST_NODES}
+use Rattle.global_defs.specs.Evaluation.{Progress, Goes, Stops, Done, going, eval}
 use Rattle.gvn_eval.specs.Sets.{setting}
 
 one_more : (b : Bool) (a n : ℕ) → n ≡ (if b then a else a + 1) → n ≤ a + 1

@@ -11,15 +11,13 @@ ghost use Rattle.global_defs.specs.Evaluation as evaluation;
 ghost use Rattle.gvn_key.specs.Terms.{update_value, statement_value};
 ghost use Rattle.gvn_eval.specs.Steps.{Leads};
 
+use global_defs::limits::MOST_NODES;
 use gvn_globals::{Lookup, Overlay};
 use gvn_key::terms::{Statement, Update};
 use gvn_key::{Bytes, Key, NoMemory, integer_of, write_integer, write_sub, zwr_write};
 use gvn_model::{Answers, Cause, Updates};
 use std::alloc::Global;
 use std::marker::Model;
-
-/// How many nodes may stand.
-const MOST_NODES: u32 = 100_000;
 
 /// What a number has to be below, without its sign: it has at most 18 digits.
 const TOO_LARGE: u64 = 1_000_000_000_000_000_000;

@@ -13,11 +13,11 @@ use gvn_model::Updates;
 use std::alloc::Global;
 
 /// How many nodes may stand.
-const MOST_NODES: usize = 100_000;
+const MOST_NODES: usize = global_defs::limits::MOST_NODES as usize;
 
 /// Whether few enough nodes stand for so many more.
 fn has_room<G: Lookup>(on: &G, more: usize) -> bool
-    ensures { IsTrue result → globals.len (G.seen on.now) + more ≤ 100000 }
+    ensures { IsTrue result → globals.len (G.seen on.now) + more ≤ MOST_NODES }
 {
     let nodes = on.nodes() as usize;
     more <= MOST_NODES && nodes <= MOST_NODES - more
@@ -52,7 +52,7 @@ fn are_sets(statements: &[Statement]) -> bool
 /// Whether each of these statements sets a node, and so few stand that each of them may be set.
 pub fn may_set_all<G: Lookup>(statements: &[Statement], on: &G) -> bool
     ensures sets { IsTrue result → list_all is_setting (map statement_value statements.now) ≡ true }
-    ensures room { IsTrue result → globals.len (G.seen on.now) + length statements.now ≤ 100000 }
+    ensures room { IsTrue result → globals.len (G.seen on.now) + length statements.now ≤ MOST_NODES }
 {
     are_sets(statements) && has_room(on, statements.len())
 }

@@ -17,10 +17,11 @@ use Rattle.std.specs.Map.{lookup}
 use Rattle.std.specs.BTreeMap.{is_at, insert_entry}
 use Rattle.gvn_globals.specs.Nodes.{node_value, is_coded, globals_of}
 use Rattle.gvn_globals.specs.declared.globals.Node.{Node}
-use Rattle.gvn_globals.proofs.Coded.{Entries, code_cmp, coded_is, coded_valid, coded_inserted, get_coded, set_coded}
-use Rattle.gvn_globals.proofs.Basics.{equal_of, false_of, and_false}
+use Rattle.gvn_globals.proofs.Coded.{Entries, coded_is, coded_valid, coded_inserted, get_coded, set_coded}
+use Rattle.gvn_globals.proofs.Basics.{equal_of, false_of}
 use Rattle.gvn_globals.proofs.Subtree.{without_next, any_push}
 use Rattle.gvn_globals.proofs.Overlays.{or_other, get_with, get_overlaid}
+use Rattle.global_defs.proofs.Basics.{bytes_cmp, and_false}
 
 -- ---- lists of keys
 
@@ -171,25 +172,25 @@ module _ (g sets gone mid low : Globals) (added removed : List Key)
 -- ---- a node in the place of another one
 
 module _ (code : List ℕ) (n : Node) (es : Entries) (fits : is_coded (code, n) ≡ true) (coded : list_all is_coded es ≡ true) where
-  pub found_at : (g : Globals) (e : Key × List ℕ) → globals_of es ≡ g → (n.key, n.value) ≡ e → contains_key g e.0 ≡ true → is_some (lookup (is_at (code_cmp code)) es) ≡ true
+  pub found_at : (g : Globals) (e : Key × List ℕ) → globals_of es ≡ g → (n.key, n.value) ≡ e → contains_key g e.0 ≡ true → is_some (lookup (is_at (bytes_cmp code)) es) ≡ true
   found_at g e same is held =
-      ap (λ d. is_some (lookup (is_at (code_cmp d)) es)) (coded_is (code, n) fits)
-      ∙ sym (mapped (lookup (is_at (code_cmp (encoded n.key))) es))
+      ap (λ d. is_some (lookup (is_at (bytes_cmp d)) es)) (coded_is (code, n) fits)
+      ∙ sym (mapped (lookup (is_at (bytes_cmp (encoded n.key))) es))
       ∙ ap is_some (sym (get_coded n.key es (coded_valid (code, n) fits) coded) ∙ ap (λ m. get m n.key) same ∙ ap (λ p. get g p.0) is) ∙ held
     where
       mapped : (o : Option Node) → is_some (option_map node_value o) ≡ is_some o
       mapped None = refl
       mapped (Some x) = refl
 
-  pub put_coded : (fs : Entries) → fs ≡ insert_entry code_cmp es code n → list_all is_coded fs ≡ true
+  pub put_coded : (fs : Entries) → fs ≡ insert_entry bytes_cmp es code n → list_all is_coded fs ≡ true
   put_coded fs is = ap (list_all is_coded) is ∙ coded_inserted code n es fits coded
 
-  pub put_is : (fs : Entries) (g : Globals) (e : Key × List ℕ) → fs ≡ insert_entry code_cmp es code n
-      → ((c : List ℕ) → lookup (is_at (code_cmp c)) fs ≡ (if is_at (code_cmp code) c then Some n else lookup (is_at (code_cmp c)) es))
+  pub put_is : (fs : Entries) (g : Globals) (e : Key × List ℕ) → fs ≡ insert_entry bytes_cmp es code n
+      → ((c : List ℕ) → lookup (is_at (bytes_cmp c)) fs ≡ (if is_at (bytes_cmp code) c then Some n else lookup (is_at (bytes_cmp c)) es))
       → globals_of es ≡ g → (n.key, n.value) ≡ e → globals_of fs ≡ insert g e.0 e.1
   put_is fs g e is at same shows =
       set_coded n.key (coded_valid (code, n) fits) (Some n) es fs coded (put_coded fs is)
-      (λ c. at c ∙ ap (λ d. if is_at (code_cmp d) c then Some n else lookup (is_at (code_cmp c)) es) (coded_is (code, n) fits)) n.value refl
+      (λ c. at c ∙ ap (λ d. if is_at (bytes_cmp d) c then Some n else lookup (is_at (bytes_cmp c)) es) (coded_is (code, n) fits)) n.value refl
       ∙ ap (λ m. insert m n.key n.value) same ∙ ap (λ p. insert g p.0 p.1) shows
 
 pub at_none : {X : Type 0} (o : Option X) → is_some o ≡ true → o ≡ None → ⊥

@@ -2,9 +2,9 @@
 use Rattle.std.proofs.Common.{◌≡◌, ℕ, Bool, true, false, List, [], ◌∷◌, map, length, is_some, option_map, Option, Some, None, if◌then◌else◌, refl, sym, ap, ◌∙◌, true≢false, arith}
 use Rattle.std.specs.declared.cmp.Ordering.{Ordering}
 use Rattle.std.specs.declared.cmp.Ordering.TheVariants.{Less, Equal, Greater}
-use Rattle.std.specs.Ordering.{is_lt, is_eq, nat_cmp, eq_by_cmp, match_ordering}
+use Rattle.std.specs.Ordering.{is_lt, is_eq, eq_by_cmp, match_ordering}
 use Rattle.std.specs.Cmp.{eq_by_cmp_equiv, first_so, second_so}
-use Rattle.std.specs.Cmp.Lexicographic.{slice_cmp, nat_list_cmp_total}
+use Rattle.std.specs.Cmp.Lexicographic.{nat_list_cmp_total}
 use Rattle.std.proofs.lemmas.Cmp.{tied_itself}
 use Rattle.std.specs.List.{list_all, AllByRecursion}
 use Rattle.std.specs.List as list
@@ -25,19 +25,17 @@ use Rattle.global_defs.proofs.KeyOrder.{key_ordered}
 use Rattle.gvn_globals.specs.declared.globals.Node.{Node}
 use Rattle.gvn_globals.specs.Nodes.{node_key, node_value, is_coded, entries_of, globals_of}
 use Rattle.gvn_globals.proofs.Basics.{less_of, equal_of, both}
+use Rattle.global_defs.proofs.Basics.{bytes_cmp}
 
 -- entries of the tree
 abbrev pub Entries : Type 0
 Entries = List (List ℕ × Node)
 
-abbrev pub code_cmp : List ℕ → List ℕ → Ordering
-code_cmp = slice_cmp nat_cmp
-
 pub coded_valid : (e : List ℕ × Node) → is_coded e ≡ true → is_key e.1.key ≡ true
-coded_valid e h = first_so (is_key e.1.key) (eq_by_cmp code_cmp e.0 (encoded e.1.key)) h
+coded_valid e h = first_so (is_key e.1.key) (eq_by_cmp bytes_cmp e.0 (encoded e.1.key)) h
 
 pub coded_is : (e : List ℕ × Node) → is_coded e ≡ true → e.0 ≡ encoded e.1.key
-coded_is e h = map.slice_cmp-IsAntisymmetric map.nat_cmp-IsAntisymmetric e.0 (encoded e.1.key) (equal_of (code_cmp e.0 (encoded e.1.key)) (second_so (is_key e.1.key) (eq_by_cmp code_cmp e.0 (encoded e.1.key)) h))
+coded_is e h = map.slice_cmp-IsAntisymmetric map.nat_cmp-IsAntisymmetric e.0 (encoded e.1.key) (equal_of (bytes_cmp e.0 (encoded e.1.key)) (second_so (is_key e.1.key) (eq_by_cmp bytes_cmp e.0 (encoded e.1.key)) h))
 
 pub coded_first : (e : List ℕ × Node) (es : Entries) → list_all is_coded (e ∷ es) ≡ true → is_coded e ≡ true
 coded_first e es h = first_so (is_coded e) (list_all is_coded es) h
@@ -46,16 +44,16 @@ pub coded_rest : (e : List ℕ × Node) (es : Entries) → list_all is_coded (e 
 coded_rest e es h = second_so (is_coded e) (list_all is_coded es) h
 
 -- codes compare as keys do
-pub coded_cmp : (q : Key) (e : List ℕ × Node) → is_key q ≡ true → is_coded e ≡ true → code_cmp (encoded q) e.0 ≡ key_cmp q e.1.key
-coded_cmp q e v h = ap (code_cmp (encoded q)) (coded_is e h) ∙ key_ordered q e.1.key v (coded_valid e h)
+pub coded_cmp : (q : Key) (e : List ℕ × Node) → is_key q ≡ true → is_coded e ≡ true → bytes_cmp (encoded q) e.0 ≡ key_cmp q e.1.key
+coded_cmp q e v h = ap (bytes_cmp (encoded q)) (coded_is e h) ∙ key_ordered q e.1.key v (coded_valid e h)
 
-pub found_coded : (q : Key) (es : Entries) → is_key q ≡ true → list_all is_coded es ≡ true → find key_cmp q (entries_of es) ≡ option_map node_value (lookup (is_at (code_cmp (encoded q))) es)
+pub found_coded : (q : Key) (es : Entries) → is_key q ≡ true → list_all is_coded es ≡ true → find key_cmp q (entries_of es) ≡ option_map node_value (lookup (is_at (bytes_cmp (encoded q))) es)
 found_coded q [] v h = refl
 found_coded q (e ∷ es) v h =
-    by (is_eq (code_cmp (encoded q) e.0)) (ap is_eq (sym (coded_cmp q e v (coded_first e es h)))) (found_coded q es v (coded_rest e es h))
+    by (is_eq (bytes_cmp (encoded q) e.0)) (ap is_eq (sym (coded_cmp q e v (coded_first e es h)))) (found_coded q es v (coded_rest e es h))
   where
-    by : (b : Bool) → eq_by_cmp key_cmp q e.1.key ≡ b → find key_cmp q (entries_of es) ≡ option_map node_value (lookup (is_at (code_cmp (encoded q))) es)
-        → (if eq_by_cmp key_cmp q e.1.key then Some e.1.value else find key_cmp q (entries_of es)) ≡ option_map node_value (if b then Some e.1 else lookup (is_at (code_cmp (encoded q))) es)
+    by : (b : Bool) → eq_by_cmp key_cmp q e.1.key ≡ b → find key_cmp q (entries_of es) ≡ option_map node_value (lookup (is_at (bytes_cmp (encoded q))) es)
+        → (if eq_by_cmp key_cmp q e.1.key then Some e.1.value else find key_cmp q (entries_of es)) ≡ option_map node_value (if b then Some e.1 else lookup (is_at (bytes_cmp (encoded q))) es)
     by true t n = rw t refl
     by false t n = rw t n
 
@@ -77,22 +75,22 @@ present_valid q es h s = by (is_key q) refl
     by true v = refl
     by false v = absurd (true≢false (sym s ∙ ap is_some (get-from_entries key_total (entries_of es) q ∙ none_invalid q es v h)))
 
-pub get_coded : (q : Key) (es : Entries) → is_key q ≡ true → list_all is_coded es ≡ true → get (globals_of es) q ≡ option_map node_value (lookup (is_at (code_cmp (encoded q))) es)
+pub get_coded : (q : Key) (es : Entries) → is_key q ≡ true → list_all is_coded es ≡ true → get (globals_of es) q ≡ option_map node_value (lookup (is_at (bytes_cmp (encoded q))) es)
 get_coded q es v h = get-from_entries key_total (entries_of es) q ∙ found_coded q es v h
 
-below_coded : (e : List ℕ × Node) (es : Entries) → is_coded e ≡ true → list_all is_coded es ≡ true → AllByRecursion (λ c. code_cmp e.0 c ≡ Less) (keys_of es) → below_all key_cmp e.1.key (entries_of es) ≡ true
+below_coded : (e : List ℕ × Node) (es : Entries) → is_coded e ≡ true → list_all is_coded es ≡ true → AllByRecursion (λ c. bytes_cmp e.0 c ≡ Less) (keys_of es) → below_all key_cmp e.1.key (entries_of es) ≡ true
 below_coded e [] g h a = refl
 below_coded e (f ∷ fs) g h a =
     both (is_lt (key_cmp e.1.key f.1.key)) (below_all key_cmp e.1.key (entries_of fs))
-    (ap is_lt (sym (coded_cmp e.1.key f (coded_valid e g) (coded_first f fs h)) ∙ ap (λ c. code_cmp c f.0) (sym (coded_is e g)) ∙ a.0))
+    (ap is_lt (sym (coded_cmp e.1.key f (coded_valid e g) (coded_first f fs h)) ∙ ap (λ c. bytes_cmp c f.0) (sym (coded_is e g)) ∙ a.0))
     (below_coded e fs g (coded_rest f fs h) a.1)
 
-pub sorted_coded : (es : Entries) → IsStrictlySortedBy code_cmp (keys_of es) → list_all is_coded es ≡ true → is_sorted key_cmp (entries_of es) ≡ true
+pub sorted_coded : (es : Entries) → IsStrictlySortedBy bytes_cmp (keys_of es) → list_all is_coded es ≡ true → is_sorted key_cmp (entries_of es) ≡ true
 sorted_coded [] s h = refl
 sorted_coded (e ∷ es) s h =
     both (below_all key_cmp e.1.key (entries_of es)) (is_sorted key_cmp (entries_of es))
-    (below_coded e es (coded_first e es h) (coded_rest e es h) (sorted_head code_cmp e.0 (keys_of es) s))
-    (sorted_coded es (sorted_tail code_cmp e.0 (keys_of es) s) (coded_rest e es h))
+    (below_coded e es (coded_first e es h) (coded_rest e es h) (sorted_head bytes_cmp e.0 (keys_of es) s))
+    (sorted_coded es (sorted_tail bytes_cmp e.0 (keys_of es) s) (coded_rest e es h))
 
 -- a map of sorted entries has them
 put_first : (k : Key) (v : List ℕ) (es : List (Key × List ℕ)) → below_all key_cmp k es ≡ true → put key_cmp k v es ≡ (k, v) ∷ es
@@ -113,7 +111,7 @@ entries_made (e ∷ es) h =
     ∙ ap (put key_cmp e.0 e.1) (entries_made es (second_so (below_all key_cmp e.0 es) (is_sorted key_cmp es) h))
     ∙ put_first e.0 e.1 es (first_so (below_all key_cmp e.0 es) (is_sorted key_cmp es) h)
 
-pub len_coded : (es : Entries) → IsStrictlySortedBy code_cmp (keys_of es) → list_all is_coded es ≡ true → map.len (globals_of es) ≡ length es
+pub len_coded : (es : Entries) → IsStrictlySortedBy bytes_cmp (keys_of es) → list_all is_coded es ≡ true → map.len (globals_of es) ≡ length es
 len_coded es s h = map.len-entries (globals_of es) ∙ ap length (entries_made (entries_of es) (sorted_coded es s h)) ∙ length-map es (λ e. (e.1.key, e.1.value))
 
 -- the first entry whose code passes has the first key that passes
@@ -127,7 +125,7 @@ found_key t p (e ∷ es) same h = by (t e.0) (sym (same e (coded_first e es h)))
     by true s n = rw s refl
     by false s n = rw s n
 
-pub first_key : (t : List ℕ → Bool) (p : Key → Bool) (es : Entries) → ((e : List ℕ × Node) → is_coded e ≡ true → t e.0 ≡ p e.1.key) → IsStrictlySortedBy code_cmp (keys_of es) → list_all is_coded es ≡ true
+pub first_key : (t : List ℕ → Bool) (p : Key → Bool) (es : Entries) → ((e : List ℕ × Node) → is_coded e ≡ true → t e.0 ≡ p e.1.key) → IsStrictlySortedBy bytes_cmp (keys_of es) → list_all is_coded es ≡ true
     → option_map node_key (option_map (λ e. e.1) (list.find (λ e. t e.0) es)) ≡ list.find p (keys (globals_of es))
 first_key t p es same s h = found_key t p es same h ∙ ap (λ l. list.find p (map (λ e. e.0) l)) (sym (entries_made (entries_of es) (sorted_coded es s h)))
 
@@ -139,25 +137,25 @@ coded_removed t (e ∷ es) h = by (t e.0) (coded_removed t es (coded_rest e es h
     by true n = coded_rest e es h
     by false n = both (is_coded e) (list_all is_coded (remove_entry t es)) (coded_first e es h) n
 
-pub coded_inserted : (code : List ℕ) (n : Node) (es : Entries) → is_coded (code, n) ≡ true → list_all is_coded es ≡ true → list_all is_coded (insert_entry code_cmp es code n) ≡ true
+pub coded_inserted : (code : List ℕ) (n : Node) (es : Entries) → is_coded (code, n) ≡ true → list_all is_coded es ≡ true → list_all is_coded (insert_entry bytes_cmp es code n) ≡ true
 coded_inserted code n [] g h = both (is_coded (code, n)) true g refl
-coded_inserted code n (e ∷ es) g h = by (code_cmp code e.0) refl (coded_inserted code n es g (coded_rest e es h))
+coded_inserted code n (e ∷ es) g h = by (bytes_cmp code e.0) refl (coded_inserted code n es g (coded_rest e es h))
   where
-    by : (r : Ordering) → code_cmp code e.0 ≡ r → list_all is_coded (insert_entry code_cmp es code n) ≡ true → list_all is_coded (match_ordering r ((code, n) ∷ e ∷ es) ((e.0, n) ∷ es) (e ∷ insert_entry code_cmp es code n)) ≡ true
+    by : (r : Ordering) → bytes_cmp code e.0 ≡ r → list_all is_coded (insert_entry bytes_cmp es code n) ≡ true → list_all is_coded (match_ordering r ((code, n) ∷ e ∷ es) ((e.0, n) ∷ es) (e ∷ insert_entry bytes_cmp es code n)) ≡ true
     by Less c m = both (is_coded (code, n)) (list_all is_coded (e ∷ es)) g h
     by Equal c m = both (is_coded (e.0, n)) (list_all is_coded es) (ap (λ d. is_coded (d, n)) (sym (map.slice_cmp-IsAntisymmetric map.nat_cmp-IsAntisymmetric code e.0 c)) ∙ g) (coded_rest e es h)
-    by Greater c m = both (is_coded e) (list_all is_coded (insert_entry code_cmp es code n)) (coded_first e es h) m
+    by Greater c m = both (is_coded e) (list_all is_coded (insert_entry bytes_cmp es code n)) (coded_first e es h) m
 
 pub is_coded_at : (code : List ℕ) (n : Node) → code ≡ encoded n.key → is_key n.key ≡ true → is_coded (code, n) ≡ true
-is_coded_at code n e v = both (is_key n.key) (eq_by_cmp code_cmp code (encoded n.key)) v (ap (λ c. eq_by_cmp code_cmp c (encoded n.key)) e ∙ ap is_eq (tied_itself nat_list_cmp_total (encoded n.key)))
+is_coded_at code n e v = both (is_key n.key) (eq_by_cmp bytes_cmp code (encoded n.key)) v (ap (λ c. eq_by_cmp bytes_cmp c (encoded n.key)) e ∙ ap is_eq (tied_itself nat_list_cmp_total (encoded n.key)))
 
 -- what a change at one code does to the map
 module _ (k : Key) (valid : is_key k ≡ true) (w : Option Node) (es fs : Entries) (coded : list_all is_coded es ≡ true) (coded_new : list_all is_coded fs ≡ true)
-    (is : (c : List ℕ) → lookup (is_at (code_cmp c)) fs ≡ (if is_at (code_cmp (encoded k)) c then w else lookup (is_at (code_cmp c)) es)) where
+    (is : (c : List ℕ) → lookup (is_at (bytes_cmp c)) fs ≡ (if is_at (bytes_cmp (encoded k)) c then w else lookup (is_at (bytes_cmp c)) es)) where
   changed : (q : Key) → get (globals_of fs) q ≡ (if eq_by_cmp key_cmp q k then option_map node_value w else get (globals_of es) q)
   changed q = by (is_key q) refl
     where
-      tied : is_key q ≡ true → eq_by_cmp code_cmp (encoded k) (encoded q) ≡ eq_by_cmp key_cmp q k
+      tied : is_key q ≡ true → eq_by_cmp bytes_cmp (encoded k) (encoded q) ≡ eq_by_cmp key_cmp q k
       tied v = ap is_eq (key_ordered k q valid v) ∙ (eq_by_cmp_equiv key_total).symm k q
 
       mapped : (b : Bool) (o : Option Node) → option_map node_value (if b then w else o) ≡ (if b then option_map node_value w else option_map node_value o)
@@ -172,8 +170,8 @@ module _ (k : Key) (valid : is_key k ≡ true) (w : Option Node) (es fs : Entrie
       by : (b : Bool) → is_key q ≡ b → get (globals_of fs) q ≡ (if eq_by_cmp key_cmp q k then option_map node_value w else get (globals_of es) q)
       by true v =
           get_coded q fs v coded_new ∙ ap (option_map node_value) (is (encoded q))
-          ∙ ap (λ b. option_map node_value (if b then w else lookup (is_at (code_cmp (encoded q))) es)) (tied v)
-          ∙ mapped (eq_by_cmp key_cmp q k) (lookup (is_at (code_cmp (encoded q))) es)
+          ∙ ap (λ b. option_map node_value (if b then w else lookup (is_at (bytes_cmp (encoded q))) es)) (tied v)
+          ∙ mapped (eq_by_cmp key_cmp q k) (lookup (is_at (bytes_cmp (encoded q))) es)
           ∙ ap (λ o. if eq_by_cmp key_cmp q k then option_map node_value w else o) (sym (get_coded q es v coded))
       by false v =
           get-from_entries key_total (entries_of fs) q ∙ none_invalid q fs v coded_new

@@ -8,6 +8,7 @@ use Rattle.std.proofs.lemmas.List.{take-append-drop, length-take-le, drop_more, 
 use Rattle.std.proofs.lemmas.Grind.{flat_map-append}
 use Rattle.std.proofs.lemmas.List.Folds.{list_all-append}
 use Rattle.std.proofs.Math.Seq.{take-add, drop-length, take-append_seam, drop-append-add, take-append-add, get_or-append_seam}
+use Rattle.global_defs.specs.declared.limits.TheConstants.{MOST_SUBS}
 use Rattle.global_defs.specs.Key.{Sub}
 use Rattle.global_defs.specs.Encoded.{encoded_sub}
 use Rattle.global_defs.specs.Valid.{is_sub}
@@ -42,7 +43,7 @@ takes_read bytes end at n name past inside r few s valid short =
     let begins : BeginWithName end made = record { name = name.name; behind = flat_map encoded_sub subs ++ encoded_sub s; code = is; long = long; short = name.short; valid = name.valid } in
     let joined : flat_map encoded_sub (subs ++ s ∷ []) ≡ flat_map encoded_sub subs ++ encoded_sub s =
     flat_map-append encoded_sub subs (s ∷ []) ∙ ap (λ (x : List ℕ). flat_map encoded_sub subs ++ x) (append-nil (encoded_sub s)) in
-    let subs_more : AreSubs 31 (flat_map encoded_sub subs ++ encoded_sub s) = record {
+    let subs_more : AreSubs MOST_SUBS (flat_map encoded_sub subs ++ encoded_sub s) = record {
       subs = subs ++ s ∷ [];
       valid = list_all-append is_sub subs (s ∷ []) ∙ rw (r.valid, valid) refl;
       few = omega (arith, length-append subs (s ∷ []), count, few);

@@ -6,6 +6,7 @@ use Rattle.std.proofs.lemmas.Grind.{flat_map-append}
 use Rattle.std.proofs.lemmas.List.Folds.{list_all-append}
 use Rattle.std.proofs.Math.ListN.{length-append}
 use Rattle.std.proofs.Math.Seq.{drop-append-add}
+use Rattle.global_defs.specs.declared.limits.TheConstants.{MOST_SUBS}
 use Rattle.global_defs.specs.Key.{Key, Sub}
 use Rattle.global_defs.specs.Encoded.{encoded, encoded_sub}
 use Rattle.global_defs.specs.Valid.{is_sub}
@@ -37,12 +38,12 @@ one_read n rest bytes size r b =
           ∙ sym (append_assoc (flat_map encoded_sub r.subs) (encoded_sub b.sub) (drop size rest)) ∙ ap (λ (x : List ℕ). x ++ drop size rest) (sym joined);
     }
 
-pub all_read : (n : ℕ) (rest bytes : List ℕ) → AreRead n rest bytes → n ≤ 31 → length rest ≡ 0 → AreSubs 31 bytes
+pub all_read : (n : ℕ) (rest bytes : List ℕ) → AreRead n rest bytes → n ≤ 31 → length rest ≡ 0 → AreSubs MOST_SUBS bytes
 all_read n [] bytes r few none = record { subs = r.subs; valid = r.valid; few = omega (arith, r.count, few); encode = sym (r.code ∙ append-nil (flat_map encoded_sub r.subs)) }
 all_read n (b ∷ rest) bytes r few none = absurd (omega arith)
 
 -- a name and subscripts that have room are a key
-pub code_of : (end : ℕ) (bytes behind : List ℕ) → BeginWithName end bytes → behind ≡ drop (end + 1) bytes → AreSubs 31 behind → length bytes ≤ 255 → IsCode bytes
+pub code_of : (end : ℕ) (bytes behind : List ℕ) → BeginWithName end bytes → behind ≡ drop (end + 1) bytes → AreSubs MOST_SUBS behind → length bytes ≤ 255 → IsCode bytes
 code_of end bytes behind b is s short =
     let key : Key = record { name = b.name; subs = s.subs } in
     let cut : drop (end + 1) bytes ≡ b.behind = (λ i. drop (sym b.long i + 1) (b.code i)) ∙ drop-append-add b.name (0 ∷ b.behind) 1 in

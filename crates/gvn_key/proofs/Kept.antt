@@ -3,6 +3,7 @@ use Rattle.std.proofs.Common.{◌≡◌, ℕ, zero, suc, ◌≤◌, true, List, 
 use Rattle.std.specs.List.{list_all, flat_map}
 use Rattle.std.proofs.Math.Seq.{take-append_seam, drop-append-add}
 use Rattle.std.proofs.lemmas.Bool.{and_parts}
+use Rattle.global_defs.specs.declared.limits.TheConstants.{MOST_SUBS}
 use Rattle.global_defs.specs.Key.{Key, Sub}
 use Rattle.global_defs.specs.Encoded.{encoded, encoded_sub}
 use Rattle.global_defs.specs.Valid.{is_sub, is_key}
@@ -34,7 +35,7 @@ read_back key h =
     let v = valid_parts key h in
     let more : List ℕ = flat_map encoded_sub key.subs in
     ap (λ (o : Option ℕ). key_cut o (encoded key)) (end_known (encoded key) key h refl)
-    ∙ (λ i. key_with (take-append_seam key.name (0 ∷ more) i) (subs_read 31 (drop-append-add key.name (0 ∷ more) 1 i)))
+    ∙ (λ i. key_with (take-append_seam key.name (0 ∷ more) i) (subs_read MOST_SUBS (drop-append-add key.name (0 ∷ more) 1 i)))
     ∙ ap (key_with key.name) (subs_back 31 key.subs v.subs v.few)
 
 -- bytes that are a key's are read to it

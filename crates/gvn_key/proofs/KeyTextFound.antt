@@ -5,6 +5,7 @@ use Rattle.std.specs.declared.result.Result.{Result}
 use Rattle.std.specs.declared.result.Result.TheVariants.{Ok, Err}
 use Rattle.std.proofs.lemmas.List.{append-nil, take-append-drop}
 use Rattle.std.proofs.lemmas.Bool.{and_parts, cases_Bool, eqb-true, or_cases, both_ways}
+use Rattle.global_defs.specs.declared.limits.TheConstants.{LONGEST_NAME, MOST_SUBS}
 use Rattle.global_defs.specs.Key.{Key}
 use Rattle.global_defs.specs.Numeral.{is_number}
 use Rattle.global_defs.specs.Valid.{is_name}
@@ -97,7 +98,7 @@ subs_found (suc k) text subs e = next_found k text (sub_at text) subs (λ u more
 
 tail_found : (name tail : List ℕ) (subs : List (List ℕ)) → subs_in tail ≡ Ok subs → IsKeyText (94 ∷ (name ++ tail)) name subs
 tail_found name [] subs e = let is : [] ≡ subs = cc in subst (λ x. IsKeyText (94 ∷ x) name subs) (sym (append-nil name)) (subst (IsKeyText (94 ∷ name) name) is (bare name))
-tail_found name (c ∷ t) subs e = elim (chosen (c == 40) (subs_at 31 t) (Err BadSub) (Ok subs) e) [
+tail_found name (c ∷ t) subs e = elim (chosen (c == 40) (subs_at MOST_SUBS t) (Err BadSub) (Ok subs) e) [
   | inl h ↦ subst (λ b. IsKeyText (94 ∷ (name ++ (b ∷ t))) name subs) (sym (eqb-true c 40 h.0)) (branched name (subs_found 31 t subs h.1))
   | inr h ↦ absurd (cc h.1)
 ]
@@ -111,9 +112,9 @@ fitting_found name tail (Ok subs) key is e = record { name = name; subs = subs; 
 fitting_found name tail (Err f) key is e = cc
 
 named_found : (name tail : List ℕ) (key : Key) → named name tail ≡ Ok key → IsTextOf (94 ∷ (name ++ tail)) key
-named_found name tail key e = elim (chosen (not (is_name name)) (Err BadName) (cond (nat_lt 31 (length name)) (Err NameTooLong) (fitting name (subs_in tail))) (Ok key) e) [
+named_found name tail key e = elim (chosen (not (is_name name)) (Err BadName) (cond (nat_lt LONGEST_NAME (length name)) (Err NameTooLong) (fitting name (subs_in tail))) (Ok key) e) [
   | inl h ↦ absurd (cc h.1)
-  | inr h ↦ elim (chosen (nat_lt 31 (length name)) (Err NameTooLong) (fitting name (subs_in tail)) (Ok key) h.1) [
+  | inr h ↦ elim (chosen (nat_lt LONGEST_NAME (length name)) (Err NameTooLong) (fitting name (subs_in tail)) (Ok key) h.1) [
     | inl k ↦ absurd (cc k.1)
     | inr k ↦ fitting_found name tail (subs_in tail) key refl k.1
   ]

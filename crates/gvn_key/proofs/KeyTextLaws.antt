@@ -10,6 +10,7 @@ use Rattle.std.proofs.lemmas.List.{append-nil}
 use Rattle.std.proofs.lemmas.List.Folds.{list_all-append}
 use Rattle.std.proofs.lemmas.Str.Parse.{digit_from_value}
 use Rattle.std.proofs.lemmas.Bool.{and_parts, and_from, or_cases, not_from_false, cases_Bool, eqb-true, ne_eqb, not-true, true≢false, le-ltb}
+use Rattle.global_defs.specs.declared.limits.TheConstants.{LONGEST_NAME}
 use Rattle.global_defs.specs.Key.{Key}
 use Rattle.global_defs.specs.Numeral.{is_number}
 use Rattle.global_defs.specs.NodeText.{pointed}
@@ -180,12 +181,12 @@ name_fails (b ∷ bs) h =
 
 -- a key's text is read to what its name and subscripts make
 
-fitted : (name : List ℕ) (subs : List (List ℕ)) (o : Option KeyError) → is_name name ≡ true → nat_lt 31 (length name) ≡ false → subs_fault 0 subs ≡ o
+fitted : (name : List ℕ) (subs : List (List ℕ)) (o : Option KeyError) → is_name name ≡ true → nat_lt LONGEST_NAME (length name) ≡ false → subs_fault 0 subs ≡ o
     → fitting name (outcome subs o) ≡ answered name subs (key_fault name subs)
 fitted name subs None good short e = refl
 fitted name subs (Some f) good short e = rw (good, short, e) refl
 
-long_enough : (name tail : List ℕ) (subs : List (List ℕ)) → is_name name ≡ true → nat_lt 31 (length name) ≡ false → subs_in tail ≡ outcome subs (subs_fault 0 subs)
+long_enough : (name tail : List ℕ) (subs : List (List ℕ)) → is_name name ≡ true → nat_lt LONGEST_NAME (length name) ≡ false → subs_in tail ≡ outcome subs (subs_fault 0 subs)
     → named name tail ≡ answered name subs (key_fault name subs)
 long_enough name tail subs good short e =
     let first : named name tail ≡ fitting name (subs_in tail) = rw (good, short) refl in
@@ -193,7 +194,7 @@ long_enough name tail subs good short e =
 
 named_is : (name tail : List ℕ) (subs : List (List ℕ)) → is_name name ≡ true → subs_in tail ≡ outcome subs (subs_fault 0 subs)
     → named name tail ≡ answered name subs (key_fault name subs)
-named_is name tail subs good e = elim (cases_Bool (nat_lt 31 (length name))) [
+named_is name tail subs good e = elim (cases_Bool (nat_lt LONGEST_NAME (length name))) [
   | inl h ↦ rw (good, h) refl
   | inr h ↦ long_enough name tail subs good h e
 ]

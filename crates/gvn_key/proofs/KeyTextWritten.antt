@@ -5,6 +5,7 @@ use Rattle.std.specs.declared.result.Result.{Result}
 use Rattle.std.specs.declared.result.Result.TheVariants.{Ok}
 use Rattle.std.proofs.lemmas.List.{append-nil}
 use Rattle.std.proofs.lemmas.Bool.{and_parts, ne_eqb, le-ltb, ltb-true}
+use Rattle.global_defs.specs.declared.limits.TheConstants.{LONGEST_NAME}
 use Rattle.global_defs.specs.Key.{Key, Sub, Number, Text}
 use Rattle.global_defs.specs.Numeral.{is_number}
 use Rattle.global_defs.specs.Encoded.{encoded}
@@ -62,7 +63,7 @@ subs_pass n (s ∷ subs) all few =
     let room : nat_lt 30 n ≡ false = le-ltb 30 n (omega arith) in
     rw (known, room) (subs_pass (n + 1) subs a.1 (omega arith))
 
-no_faults : (name : List ℕ) (subs : List (List ℕ)) → is_name name ≡ true → length name ≤ 31 → subs_fault 0 subs ≡ None → length (encoded (key_of name subs)) ≤ 255 → key_fault name subs ≡ None
+no_faults : (name : List ℕ) (subs : List (List ℕ)) → is_name name ≡ true → length name ≤ LONGEST_NAME → subs_fault 0 subs ≡ None → length (encoded (key_of name subs)) ≤ 255 → key_fault name subs ≡ None
 no_faults name subs good short none fits = rw (good, le-ltb 31 (length name) short, none, le-ltb 255 (length (encoded (key_of name subs))) fits) refl
 
 made_again : (key : Key) → list_all is_sub key.subs ≡ true → key_of key.name (map sub_bytes key.subs) ≡ key

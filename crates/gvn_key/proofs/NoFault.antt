@@ -2,6 +2,7 @@
 use Rattle.std.proofs.Common.{◌≡◌, ℕ, ◌+◌, ◌≤◌, Bool, true, false, cond, not, List, [], ◌∷◌, length, map, None, Some, Option, arith, nat_lt, nat_le, nat_eq, refl, ap, ◌∙◌}
 use Rattle.std.specs.List.{list_all}
 use Rattle.std.proofs.lemmas.Bool.{ltb-false, eqb-false, le-leb, le-ltb, not-false}
+use Rattle.global_defs.specs.declared.limits.TheConstants.{LONGEST_NAME}
 use Rattle.global_defs.specs.Key.{Key, sub_of}
 use Rattle.global_defs.specs.Valid.{is_key, is_sub, is_name}
 use Rattle.global_defs.specs.Encoded.{encoded}
@@ -35,7 +36,7 @@ subs_few n (s ∷ ss) h e =
 pub no_fault : (name : List ℕ) (subs : List (List ℕ)) → parts_fault name subs ≡ None → length (encoded (key_of name subs)) ≤ 255 → is_key (key_of name subs) ≡ true
 no_fault name subs e short =
     let a = no_fault_at (not (is_name name)) BadName _ e in
-    let b = no_fault_at (nat_lt 31 (length name)) NameTooLong _ a.1 in
+    let b = no_fault_at (nat_lt LONGEST_NAME (length name)) NameTooLong _ a.1 in
     let p : is_name name ≡ true = not-false (is_name name) a.0 in
     let q : nat_le (length name) 31 ≡ true = le-leb (length name) 31 (ltb-false 31 (length name) b.0) in
     let r : list_all is_sub (map sub_of subs) ≡ true = subs_pass 0 subs b.1 in

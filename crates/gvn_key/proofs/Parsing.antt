@@ -3,6 +3,7 @@ use Rattle.std.proofs.Common.{◌≡◌, ℕ, suc, ◌+◌, ◌-◌, ◌<◌, �
 use Rattle.std.specs.declared.result.Result.{Result}
 use Rattle.std.specs.declared.result.Result.TheVariants.{Ok, Err}
 use Rattle.std.proofs.lemmas.Bool.{le-ltb, eq-eqb}
+use Rattle.global_defs.specs.declared.limits.TheConstants.{LONGEST_NAME, MOST_SUBS}
 use Rattle.global_defs.specs.Key.{Key}
 use Rattle.global_defs.specs.Valid.{is_name}
 use Rattle.gvn_key.specs.Faults.{MakesKey, key_fault}
@@ -71,11 +72,11 @@ made_reads name subs (Err TooManySubs) h = ap (answered name subs) h
 made_reads name subs (Err KeyTooLong) h = ap (answered name subs) h
 made_reads name subs (Err NoMemory) h = tt
 
-pub named_reads : (name tail : List ℕ) (subs : List (List ℕ)) (r : Result Key KeyError) → is_name name ≡ true → length name ≤ 31 → subs_in tail ≡ Ok subs
+pub named_reads : (name tail : List ℕ) (subs : List (List ℕ)) (r : Result Key KeyError) → is_name name ≡ true → length name ≤ LONGEST_NAME → subs_in tail ≡ Ok subs
     → MakesKey name subs r → ReadsKey (named name tail) r
 named_reads name tail subs r good short e h = rw (good, le-ltb 31 (length name) short, e) (made_reads name subs r h)
 
 -- an opening bracket, and the subscripts behind it
-pub behind_bracket : (tail : List ℕ) → 1 ≤ length tail → get_or tail 0 0 ≡ 40 → subs_at 31 (take (length tail - 1) (drop 1 tail)) ≡ subs_in tail
+pub behind_bracket : (tail : List ℕ) → 1 ≤ length tail → get_or tail 0 0 ≡ 40 → subs_at MOST_SUBS (take (length tail - 1) (drop 1 tail)) ≡ subs_in tail
 behind_bracket [] some e = absurd (omega arith)
-behind_bracket (b ∷ bs) some e = ap (subs_at 31) (sym (rest_is (b ∷ bs))) ∙ sym (rw (eq-eqb b 40 e) refl)
+behind_bracket (b ∷ bs) some e = ap (subs_at MOST_SUBS) (sym (rest_is (b ∷ bs))) ∙ sym (rw (eq-eqb b 40 e) refl)

@@ -3,6 +3,7 @@ use Rattle.std.proofs.Common.{◌≡◌, ℕ, ◌-◌, ◌<◌, ◌≤◌, ◌&&
 use Rattle.std.specs.List.{list_all, flat_map}
 use Rattle.std.proofs.Math.ListN.{length-append}
 use Rattle.std.proofs.lemmas.Bool.{leb-true, le-leb}
+use Rattle.global_defs.specs.declared.limits.TheConstants.{LONGEST_KEY}
 use Rattle.global_defs.specs.Key.{Key}
 use Rattle.global_defs.specs.Valid.{is_name, is_sub}
 use Rattle.global_defs.specs.Encoded.{encoded, encoded_sub}
@@ -52,12 +53,12 @@ name_code bytes r long =
 code_long : (len n : ℕ) (bytes : List ℕ) → n ≡ len → IsCode n bytes → IsCode len bytes
 code_long len n bytes e c = subst (λ m. IsCode m bytes) e c
 
-name_of_length : (len : ℕ) (bytes : List ℕ) → len ≤ 255 → EndsName 0 bytes → length bytes ≡ len → IsCode len bytes
+name_of_length : (len : ℕ) (bytes : List ℕ) → len ≤ LONGEST_KEY → EndsName 0 bytes → length bytes ≡ len → IsCode len bytes
 name_of_length len bytes small r long = code_long len (length bytes) bytes long (name_code bytes r (omega arith))
 
 -- before the first byte
 
-started : (len : ℕ) → len ≤ 255 → GoesOn (Name 0) len → IsAt (record { place = Name 0; left = len }) [] len
+started : (len : ℕ) → len ≤ LONGEST_KEY → GoesOn (Name 0) len → IsAt (record { place = Name 0; left = len }) [] len
 started len small g = record {
   left = omega arith;
   fits_length = small;
@@ -66,7 +67,7 @@ started len small g = record {
   begins = record { rest = g.rest; whole = name_of_length len g.rest small g.completes g.long };
 }
 
-pub at_start : (len : ℕ) → len ≤ 255 → fits (Name 0) len ≡ true → IsAt (record { place = Name 0; left = len }) [] len
+pub at_start : (len : ℕ) → len ≤ LONGEST_KEY → fits (Name 0) len ≡ true → IsAt (record { place = Name 0; left = len }) [] len
 at_start len small h = started len small (goes_on (Name 0) len h)
 
 pub no_start : (len : ℕ) → fits (Name 0) len ≡ false → (bytes : List ℕ) → IsCode len bytes → ⊥
@@ -74,12 +75,12 @@ no_start len h bytes c = not_both (fits (Name 0) len) (subst (λ n. fits (Name 0
 
 -- keys have 2 bytes at least, and 255 at most
 
-pub code_length : (len : ℕ) (bytes : List ℕ) → IsCode len bytes → (2 ≤ len) × (len ≤ 255)
+pub code_length : (len : ℕ) (bytes : List ℕ) → IsCode len bytes → (2 ≤ len) × (len ≤ LONGEST_KEY)
 code_length len bytes c =
     let some = leb-true 2 (length bytes) (completed_fits (Name 0) bytes (code_name len bytes c)) in
     (omega (arith, c.long), omega (arith, c.long, ap length c.encodes, (valid_parts c.key c.valid).fits))
 
-pub each_length : (len : ℕ) → 2 ≤ len → len ≤ 255 → Begins [] len
+pub each_length : (len : ℕ) → 2 ≤ len → len ≤ LONGEST_KEY → Begins [] len
 each_length len some small = (at_start len small (le-leb 2 len some)).begins
 
 -- behind one byte more

@@ -3,6 +3,7 @@ use Rattle.std.specs.Prelude.{◌≡◌, ℕ, zero, suc, ◌+◌, ◌-◌, ◌==
 use Rattle.std.specs.List.{list_all, flat_map}
 use Rattle.std.specs.Char.{is_ascii_digit}
 use Rattle.std.specs.Str.Parse.{digits_value}
+use Rattle.global_defs.specs.declared.limits.TheConstants.{MOST_SUBS}
 use Rattle.global_defs.specs.Key.{Key, Sub, sub_of}
 use Rattle.global_defs.specs.Encoded.{encoded, encoded_sub}
 use Rattle.global_defs.specs.NodeText.{magnitude_text, sub_bytes}
@@ -116,7 +117,7 @@ subs_read (suc most) bytes = before_others (first_read (sub_end bytes) bytes) (s
 -- a key by where its name ends
 abbrev pub key_cut : Option ℕ → List ℕ → Key
 key_cut None bytes = record { name = bytes; subs = [] }
-key_cut (Some end) bytes = record { name = take end bytes; subs = subs_read 31 (drop (end + 1) bytes) }
+key_cut (Some end) bytes = record { name = take end bytes; subs = subs_read MOST_SUBS (drop (end + 1) bytes) }
 
 -- the key that has these bytes as its encoded form, where some key has
 unfoldable pub key_read : List ℕ → Key

@@ -1,5 +1,6 @@
 -- Which fault a name and subscripts have.
 use Rattle.std.specs.Prelude.{◌≡◌, ℕ, ◌+◌, ◌==◌, not, List, [], ◌∷◌, ◌++◌, length, take, map, Option, Some, None, nat_lt, if◌then◌else◌}
+use Rattle.global_defs.specs.declared.limits.TheConstants.{LONGEST_KEY, LONGEST_NAME}
 use Rattle.global_defs.specs.Key.{Key, Sub, sub_of}
 use Rattle.global_defs.specs.Valid.{is_name}
 use Rattle.global_defs.specs.Encoded.{encoded}
@@ -27,11 +28,11 @@ subs_fault n (s ∷ ss) = if length s == 0 then Some NullSub else if nat_lt 30 n
 
 -- the first fault from the left, but for the length of the whole
 abbrev pub parts_fault : List ℕ → List (List ℕ) → Option KeyError
-parts_fault name subs = if not (is_name name) then Some BadName else if nat_lt 31 (length name) then Some NameTooLong else subs_fault 0 subs
+parts_fault name subs = if not (is_name name) then Some BadName else if nat_lt LONGEST_NAME (length name) then Some NameTooLong else subs_fault 0 subs
 
 -- an encoded key of more than 255 bytes
 abbrev pub length_fault : Key → Option KeyError
-length_fault key = if nat_lt 255 (length (encoded key)) then Some KeyTooLong else None
+length_fault key = if nat_lt LONGEST_KEY (length (encoded key)) then Some KeyTooLong else None
 
 -- the first, or else the second
 abbrev pub or_else : Option KeyError → Option KeyError → Option KeyError

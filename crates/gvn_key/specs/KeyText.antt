@@ -3,6 +3,7 @@ use Rattle.std.specs.Prelude.{◌≡◌, ℕ, zero, suc, ◌&&◌, ◌||◌, ◌
 use Rattle.std.specs.List.{position_or_len}
 use Rattle.std.specs.declared.result.Result.{Result}
 use Rattle.std.specs.declared.result.Result.TheVariants.{Ok, Err}
+use Rattle.global_defs.specs.declared.limits.TheConstants.{LONGEST_NAME, MOST_SUBS}
 use Rattle.global_defs.specs.Key.{Key, Sub}
 use Rattle.global_defs.specs.NodeText.{sub_bytes}
 use Rattle.global_defs.specs.Numeral.{is_number}
@@ -99,7 +100,7 @@ subs_at (suc k) text = going (next_from (sub_at text)) (subs_at k)
 
 abbrev pub subs_in : List ℕ → Result (List (List ℕ)) KeyError
 subs_in [] = Ok []
-subs_in (b ∷ bs) = if b == 40 then subs_at 31 bs else Err BadSub
+subs_in (b ∷ bs) = if b == 40 then subs_at MOST_SUBS bs else Err BadSub
 
 -- the key of a name and subscripts, unless they have a fault
 abbrev pub answered : List ℕ → List (List ℕ) → Option KeyError → Result Key KeyError
@@ -111,7 +112,7 @@ fitting name (Err e) = Err e
 fitting name (Ok subs) = answered name subs (key_fault name subs)
 
 abbrev pub named : List ℕ → List ℕ → Result Key KeyError
-named name tail = if not (is_name name) then Err BadName else if nat_lt 31 (length name) then Err NameTooLong else fitting name (subs_in tail)
+named name tail = if not (is_name name) then Err BadName else if nat_lt LONGEST_NAME (length name) then Err NameTooLong else fitting name (subs_in tail)
 
 -- a name ends where a bracket stands
 abbrev pub is_bracket : ℕ → Bool

@@ -2,6 +2,7 @@
 use Rattle.std.specs.Prelude.{◌≡◌, ℕ, ◌+◌, ◌-◌, ◌≤◌, ◌<◌, ◌==◌, ◌&&◌, ◌||◌, Bool, true, false, not, List, [], ◌∷◌, ◌++◌, length, take, slice_index, nat_le}
 use Rattle.std.specs.List.{AllByRecursion}
 use Rattle.std.specs.Char.{is_ascii_digit}
+use Rattle.global_defs.specs.declared.limits.TheConstants.{LONGEST_NAME}
 use Rattle.global_defs.specs.Key.{Sub}
 use Rattle.global_defs.specs.Valid.{is_name, is_sub}
 use Rattle.global_defs.specs.Encoded.{encoded_sub}
@@ -12,7 +13,7 @@ pub record BeginWithName (n : ℕ) (bytes : List ℕ) : Type 0 where
   pub behind : List ℕ
   pub code : bytes ≡ name ++ 0 ∷ behind
   pub long : length name ≡ n
-  pub short : n ≤ 31
+  pub short : n ≤ LONGEST_NAME
   pub valid : is_name name ≡ true
 
 -- a subscript of so many bytes, and others

@@ -2,6 +2,7 @@
 use Rattle.std.specs.Prelude.{◌≡◌, ℕ, zero, suc, ◌+◌, ◌-◌, ◌≤◌, ◌==◌, ◌&&◌, Bool, true, not, List, [], ◌∷◌, ◌++◌, length, map, if◌then◌else◌}
 use Rattle.std.specs.List.{list_all, flat_map}
 use Rattle.std.specs.Char.{is_ascii_alphanumeric, is_ascii_digit}
+use Rattle.global_defs.specs.declared.limits.TheConstants.{LONGEST_KEY, LONGEST_NAME, MOST_SUBS}
 use Rattle.global_defs.specs.Key.{Sub}
 use Rattle.global_defs.specs.Valid.{is_name, is_sub}
 use Rattle.global_defs.specs.Encoded.{encoded_sub, escaped}
@@ -32,8 +33,8 @@ pub record EndsName (count : ℕ) (bytes : List ℕ) : Type 0 where
   pub behind : List ℕ
   pub is : bytes ≡ name ++ 0 ∷ behind
   pub valid : is_name_end count name ≡ true
-  pub short : length name ≤ 31 - count
-  pub subs : AreSubs 31 behind
+  pub short : length name ≤ LONGEST_NAME - count
+  pub subs : AreSubs MOST_SUBS behind
 
 -- digits behind such a last one, none of them a leading or a trailing zero of the whole
 abbrev pub end_well : Last → List ℕ → Bool
@@ -89,7 +90,7 @@ Completes (Escape subs numeral) bytes = EndsText subs numeral (1 ∷ bytes)
 -- those that make the bytes taken a key's encoded form of that length.
 pub record IsAt (prefix : KeyPrefix) (taken : List ℕ) (len : ℕ) : Type 0 where
   pub left : prefix.left + length taken ≡ len
-  pub fits_length : len ≤ 255
+  pub fits_length : len ≤ LONGEST_KEY
   pub completes : (rest : List ℕ) → Completes prefix.place rest → length rest ≡ prefix.left → IsCode len (taken ++ rest)
   pub completed : (rest : List ℕ) → IsCode len (taken ++ rest) → Completes prefix.place rest
   pub begins : Begins taken len

@@ -1,6 +1,7 @@
 -- Places in an encoded key: which one a byte leads to, and in how many bytes the key can end.
 use Rattle.std.specs.Prelude.{ℕ, zero, suc, ◌+◌, ◌-◌, ◌==◌, ◌&&◌, ◌||◌, Bool, true, false, not, nat_lt, nat_le, min, Option, Some, None, if◌then◌else◌}
 use Rattle.std.specs.Char.{is_ascii_alphabetic, is_ascii_alphanumeric, is_ascii_digit}
+use Rattle.global_defs.specs.declared.limits.TheConstants.{LONGEST_NAME, MOST_SUBS}
 use Rattle.gvn_key.specs.declared.digits.Last.{Last}
 use Rattle.gvn_key.specs.declared.digits.Last.TheVariants.{Absent, Zero, Other}
 use Rattle.gvn_key.specs.declared.digits.Number.{Number}
@@ -87,7 +88,7 @@ abbrev pub is_name_byte : ℕ → ℕ → Bool
 is_name_byte n b = if n == 0 then (b == 37 || is_ascii_alphabetic b) else is_ascii_alphanumeric b
 
 abbrev pub in_name : ℕ → ℕ → Option Place
-in_name n b = if b == 0 && nat_lt 0 n then Some (Boundary 31) else (if is_name_byte n b && nat_lt n 31 then Some (Name (n + 1)) else None)
+in_name n b = if b == 0 && nat_lt 0 n then Some (Boundary MOST_SUBS) else (if is_name_byte n b && nat_lt n LONGEST_NAME then Some (Name (n + 1)) else None)
 
 -- a subscript begins, and so many may stand behind it
 abbrev pub begun : ℕ → ℕ → Option Place

@@ -14,19 +14,11 @@ use super::encoding::{push_sub, push_subs};
 use super::numeral::is_number;
 use super::subs_text::push_subs_text;
 use super::zwr::push_zwr;
+use global_defs::limits::{LONGEST_KEY, LONGEST_NAME, MOST_SUBS};
 use std::alloc::Global;
 use std::marker::Model;
 use std::sync::Arc;
 use thiserror::Error;
-
-/// How many characters a name may have.
-const LONGEST_NAME: usize = 31;
-
-/// How many subscripts a key may have.
-const MOST_SUBS: usize = 31;
-
-/// How many bytes an encoded key may have.
-pub(crate) const LONGEST_KEY: usize = 255;
 
 /// How many bytes an encoded subscript has beside its own, where nothing is escaped.
 const BESIDE_SUB: usize = 3;

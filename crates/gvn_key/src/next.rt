@@ -10,15 +10,16 @@ ghost use Rattle.gvn_key.specs.Plain.{BeginWithName};
 
 use crate::name::name_len;
 use crate::parts::is_code;
-use crate::plain::{LONGEST_KEY, MOST_SUBS, read_sub};
+use crate::plain::read_sub;
 use crate::told::Seen;
+use global_defs::limits::{LONGEST_KEY, MOST_SUBS};
 use std::cmp::Ordering;
 
 /// What a key's bytes tell whose subscripts stand from a place on, if these are 0, positive whole numbers and plain strings.
 #[inline(always)]
 fn plain_subs(bytes: &[u8], end: usize) -> Option<Seen>
     requires name { BeginWithName end bytes.now }
-    requires short { length bytes.now ≤ 255 }
+    requires short { length bytes.now ≤ LONGEST_KEY }
     requires inside { end < length bytes.now }
     ensures code { IfSome result (λ seen. IsCode bytes.now) }
     ensures tells { IfSome result (λ seen. Tells seen bytes.now) }

@@ -15,13 +15,8 @@ use super::bytes::{Bytes, NoMemory};
 use super::key::{Key, KeyError, is_name};
 use super::numeral::is_number;
 use super::reader::{is_whole, scan};
+use global_defs::limits::{LONGEST_NAME, MOST_SUBS};
 use std::alloc::Global;
-
-/// How many characters a name may have.
-const LONGEST_NAME: usize = 31;
-
-/// How many subscripts a key may have.
-const MOST_SUBS: usize = 31;
 
 /// A subscript's bytes, and the text behind it.
 #[derive(Drop)]
@@ -172,7 +167,7 @@ fn fault_past(alloc: Global, text: &[u8]) -> Result<KeyError, NoMemory>
 
 /// Subscripts to the text's end, at most 31.
 fn subs_at(alloc: Global, text: &[u8]) -> Result<Vec<Bytes>, KeyError>
-    ensures { ReadsSubs (λ v. v.items) (subs_at 31 text.now) result }
+    ensures { ReadsSubs (λ v. v.items) (subs_at MOST_SUBS text.now) result }
 {
     let mut subs = Vec::new(alloc);
     let mut rest = text;

@@ -11,8 +11,9 @@ ghost use Rattle.gvn_key.specs.Faults.{child_of, front_of};
 
 use super::bytes::{Bytes, NoMemory};
 use super::decode::{behind, depth, first_sub, place, subs};
-use super::key::{Key, LONGEST_KEY};
+use super::key::Key;
 use crate::prefix::KeyPrefix;
+use global_defs::limits::LONGEST_KEY;
 use std::alloc::Global;
 
 /// Whether some key has these bytes as its encoded form. It takes no memory.

@@ -6,10 +6,10 @@ use super::digits::Number;
 use super::numeral_front::Numeral;
 
 /// How many characters a name may have.
-const LONGEST_NAME: u8 = 31;
+const LONGEST_NAME: u8 = global_defs::limits::LONGEST_NAME as u8;
 
 /// How many subscripts a key may have.
-const MOST_SUBS: u8 = 31;
+const MOST_SUBS: u8 = global_defs::limits::MOST_SUBS as u8;
 
 /// Where the bytes of a key have come to. The first number of a subscript's place is how many more may stand behind it.
 #[derive(Clone, Copy, Debug, PartialEq, Eq)]

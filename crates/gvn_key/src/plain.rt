@@ -4,12 +4,7 @@ ghost use Rattle.gvn_key.specs.Plain.{BeginWithText, BeginWithWhole, BeginWithSu
 
 use crate::places::{digits_end, text_end};
 use crate::told::Seen;
-
-/// How many bytes an encoded key may have.
-pub const LONGEST_KEY: usize = 255;
-
-/// How many subscripts a key may have.
-pub const MOST_SUBS: usize = 31;
+use global_defs::limits::LONGEST_KEY;
 
 /// The byte of the exponent of a whole number with no digit.
 const EXPONENT: usize = 64;

@@ -4,6 +4,7 @@ ghost use Rattle.std.specs.Bool.{OnTrue};
 ghost use Rattle.std.specs.declared.cmp.Ordering.TheVariants.{Less};
 ghost use Rattle.std.specs.Ordering.{nat_cmp};
 ghost use Rattle.std.specs.Cmp.Lexicographic.{slice_cmp};
+ghost use Rattle.global_defs.specs.declared.limits.TheConstants.{LONGEST_KEY};
 ghost use Rattle.gvn_key.specs.Decoding.{IsCode};
 ghost use Rattle.gvn_key.specs.Next.{Tells};
 
@@ -54,7 +55,7 @@ impl Seen {
 
     /// The same of a subscript that begins at a place of a key, whose bytes are at most 255.
     pub(crate) fn behind(self, at: usize) -> Self
-        requires place { at ≤ 255 }
+        requires place { at ≤ LONGEST_KEY }
         requires from { self.from ≤ 2 }
         ensures from { result.from ≡ at + self.from }
         ensures longest { result.longest ≤ self.longest }

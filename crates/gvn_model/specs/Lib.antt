@@ -1,4 +1,5 @@
 pub mod Reigns
+pub mod Regions
 pub mod Entries
 pub mod Items
 pub mod Numbered

@@ -1,6 +1,7 @@
 // Lists of reigns, and histories.
-ghost use Rattle.std.specs.Prelude.{◌≡◌, ◌==◌, ◌<◌, [], ◌∷◌, ◌++◌, List, length, map, filter, nat_le, Some, slice_get, IfOk, OnOk, OnErr};
+ghost use Rattle.std.specs.Prelude.{◌≡◌, ◌==◌, ◌<◌, [], ◌∷◌, ◌++◌, List, length, map, Some, slice_get, IfOk, OnOk, OnErr};
 ghost use Rattle.global_defs.specs.Entry as defs;
+ghost use Rattle.global_defs.specs.Rising.{begun_by};
 ghost use Rattle.gvn_model.specs.Reigns.{reign_value};
 
 use super::reign::Reign;
@@ -83,7 +84,7 @@ impl Reigns {
 
     /// Those of the reigns that begin by the entry of that number.
     pub fn begun_by(&self, number: u64) -> Result<Self, NoMemory>
-        ensures { IfOk result (λ made. made ≡ filter (λ r. nat_le r.start number) self.now) }
+        ensures { IfOk result (λ made. made ≡ begun_by number self.now) }
     {
         begun_in(*self.items.allocator(), &self.items, number)
     }
@@ -109,7 +110,7 @@ fn copy_all(alloc: Global, reigns: &[Reign]) -> Result<Vec<Reign>, NoMemory>
 }
 
 fn begun_in(alloc: Global, reigns: &[Reign], number: u64) -> Result<Reigns, NoMemory>
-    ensures { IfOk result (λ made. made ≡ filter (λ r. nat_le r.start number) (map reign_value reigns.now)) }
+    ensures { IfOk result (λ made. made ≡ begun_by number (map reign_value reigns.now)) }
 {
     let mut made = Reigns::new(alloc);
     for reign in reigns {

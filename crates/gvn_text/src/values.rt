@@ -5,11 +5,9 @@ ghost use Rattle.gvn_text.specs.Reads.{Reads, fault_value};
 
 use super::fault::{Fault, TextError, bad, place, too_long};
 use super::parts::{alone, word_end};
+use global_defs::limits::LONGEST_VALUE;
 use gvn_key::{Bytes, NoMemory, ZwrError, integer_of, is_number, zwr_read};
 use std::alloc::Global;
-
-/// How many bytes a value may have.
-const LONGEST_VALUE: usize = 1500;
 
 /// A value's own fault, by its place in the value.
 fn inside(len: usize, left: &[u8], fault: ZwrError) -> Fault

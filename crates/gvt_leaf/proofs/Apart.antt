@@ -13,8 +13,9 @@ use Rattle.block_fmt.proofs.CellPlaces.{size_cons, size_split}
 use Rattle.block_fmt.proofs.Order as order
 use Rattle.gvt_leaf.specs.Chained.{leaf_cells, replaced}
 use Rattle.gvt_leaf.specs.Edits.{cell_size}
-use Rattle.gvt_leaf.proofs.Bytes.{bytes_cmp, same_bytes}
+use Rattle.gvt_leaf.proofs.Bytes.{same_bytes}
 use Rattle.gvt_leaf.proofs.Updates.{put_behind, cut_cell}
+use Rattle.global_defs.proofs.Basics.{bytes_cmp}
 
 -- ---- lists of leaves
 

@@ -21,9 +21,9 @@ use Rattle.gvn_globals.proofs.Found.{after_found}
 use Rattle.gvt_leaf.specs.Listed.{node_value, node_cell}
 use Rattle.gvt_leaf.specs.Nodes.{key_in, globals_in}
 use Rattle.gvt_leaf.specs.declared.nodes.Node.{Node}
-use Rattle.gvt_leaf.proofs.Bytes.{bytes_cmp}
 use Rattle.gvt_leaf.proofs.KeysBack.{key_back}
 use Rattle.gvt_leaf.proofs.Backed.{IsBacked, first_key}
+use Rattle.global_defs.proofs.Basics.{bytes_cmp}
 
 -- ---- a key by its bytes
 

@@ -16,8 +16,9 @@ use Rattle.block_laws.proofs.Parts.{step_keys}
 use Rattle.block_laws.proofs.Following as following
 use Rattle.gvt_leaf.specs.Nodes.{key_in, globals_in}
 use Rattle.gvt_leaf.specs.Order.{Rise}
-use Rattle.gvt_leaf.proofs.Bytes.{bytes_cmp, above_flips}
+use Rattle.gvt_leaf.proofs.Bytes.{above_flips}
 use Rattle.gvt_leaf.proofs.KeysBack.{key_back, globals_back}
+use Rattle.global_defs.proofs.Basics.{bytes_cmp}
 
 pub keys_rise : (cs : List Cell) → Rise cs → KeysRise cs
 keys_rise [] h = tt

@@ -1,18 +1,15 @@
 -- The order of bytes, and of cells by it.
 use Rattle.std.proofs.Common.{◌≡◌, ℕ, List, [], ◌∷◌, ◌++◌, ap, ◌∙◌}
-use Rattle.std.specs.declared.cmp.Ordering.{Ordering}
 use Rattle.std.specs.declared.cmp.Ordering.TheVariants.{Less, Equal, Greater}
-use Rattle.std.specs.Ordering.{nat_cmp, ordering_reverse}
-use Rattle.std.specs.Cmp.Lexicographic.{slice_cmp, nat_list_cmp_total}
+use Rattle.std.specs.Ordering.{ordering_reverse}
+use Rattle.std.specs.Cmp.Lexicographic.{nat_list_cmp_total}
 use Rattle.std.specs.FinMap as globals
 use Rattle.journal_defs.specs.Leaves.{Cell}
 use Rattle.block_fmt.specs.Cells.{AreBelow, AreAbove}
 use Rattle.gvt_leaf.specs.Order.{Rise}
 use Rattle.gvt_leaf.proofs.Links.{all-append}
 use Rattle.journal_laws.proofs.ImageSteps.{all_both as all_joined}
-
-abbrev pub bytes_cmp : List ℕ → List ℕ → Ordering
-bytes_cmp = slice_cmp nat_cmp
+use Rattle.global_defs.proofs.Basics.{bytes_cmp}
 
 pub flip : (a b : List ℕ) → bytes_cmp a b ≡ ordering_reverse (bytes_cmp b a)
 flip a b = nat_list_cmp_total.antisymm a b

@@ -15,13 +15,13 @@ use Rattle.gvt_leaf.specs.Chained.{leaf_cells, all_cells, replaced}
 use Rattle.gvt_leaf.specs.Order.{Rise, AreRising, IsSeat}
 use Rattle.gvt_leaf.specs.Edits.{cell_size, Fits, HasPut, IsOpened}
 use Rattle.gvt_leaf.specs.declared.edits.Cut.{Cut}
-use Rattle.gvt_leaf.proofs.Bytes.{bytes_cmp}
 use Rattle.gvt_leaf.proofs.LeafLists.{cut_leaf, filled-replaced}
 use Rattle.gvt_leaf.proofs.Updates.{put_again, belongs_there}
 use Rattle.gvt_leaf.proofs.Apart.{replaced_there, second_there, length-replaced, replaced_again, replaced_second, put_size, new_size, put_ahead, put_after, both_some, put_some, length_new, length_over}
 use Rattle.gvt_leaf.proofs.Counted.{byte_is}
 use Rattle.gvt_leaf.proofs.Risen.{rise_put}
 use Rattle.gvt_leaf.proofs.Seated.{put_here, count-replaced}
+use Rattle.global_defs.proofs.Basics.{bytes_cmp}
 
 -- ---- where a leaf is cut
 

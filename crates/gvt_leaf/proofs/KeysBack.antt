@@ -4,6 +4,7 @@ use Rattle.std.specs.List.{AllByRecursion, list_all, flat_map}
 use Rattle.std.specs.FinMap as globals
 use Rattle.std.proofs.Math.Seq.{take-append_seam, drop-append-add}
 use Rattle.std.proofs.lemmas.Bool.{and_parts}
+use Rattle.global_defs.specs.declared.limits.TheConstants.{MOST_SUBS}
 use Rattle.global_defs.specs.Key.{Key, Sub, sub_of, key_cmp}
 use Rattle.global_defs.specs.Valid.{is_key, is_sub}
 use Rattle.global_defs.specs.Encoded.{encoded, encoded_sub}
@@ -43,8 +44,8 @@ key_back k h =
     let parts = cut (encoded k) (length k.name) k at h refl in
     let name : take (unwrap_or (position (λ b. b == 0) (encoded k)) 0) (encoded k) ≡ k.name =
     ap (λ (o : Option ℕ). take (unwrap_or o 0) (encoded k)) at ∙ parts.name in
-    let subs : subs_in 31 (drop (unwrap_or (position (λ b. b == 0) (encoded k)) 0 + 1) (encoded k)) ≡ k.subs =
-    ap (λ (o : Option ℕ). subs_in 31 (drop (unwrap_or o 0 + 1) (encoded k))) at ∙ ap (subs_in 31) (sym parts.subs) ∙ subs_back 31 k.subs valid.few valid.subs in
+    let subs : subs_in MOST_SUBS (drop (unwrap_or (position (λ b. b == 0) (encoded k)) 0 + 1) (encoded k)) ≡ k.subs =
+    ap (λ (o : Option ℕ). subs_in MOST_SUBS (drop (unwrap_or o 0 + 1) (encoded k))) at ∙ ap (subs_in MOST_SUBS) (sym parts.subs) ∙ subs_back 31 k.subs valid.few valid.subs in
     λ i. record { name = name i; subs = subs i }
 
 nodes_back : (es : List (Key × List ℕ)) → AllByRecursion (λ e. IsTrue (is_key e.0)) es → map (λ (c : Cell). (key_in c.0, c.1)) (map (λ (e : Key × List ℕ). (encoded e.0, e.1)) es) ≡ es

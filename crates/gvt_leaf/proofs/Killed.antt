@@ -8,11 +8,12 @@ use Rattle.block_fmt.specs.Cells.{AreBelow, cell_at}
 use Rattle.gvt_leaf.specs.Chained.{leaf_cells, all_cells}
 use Rattle.gvt_leaf.specs.Edits.{outside}
 use Rattle.gvt_leaf.specs.Order.{Rise, AreRising, IsSeat}
-use Rattle.gvt_leaf.proofs.Bytes.{bytes_cmp, rise_second}
+use Rattle.gvt_leaf.proofs.Bytes.{rise_second}
 use Rattle.gvt_leaf.proofs.LeafLists.{cells_round, rest_from, leaf_filled}
 use Rattle.gvt_leaf.proofs.TakenOut.{AreNotBefore, above_not_before, FirstOutside, none_left}
 use Rattle.gvt_leaf.proofs.Runs.{first_outside}
 use Rattle.journal_laws.proofs.ImageSteps.{all_both as all_joined}
+use Rattle.global_defs.proofs.Basics.{bytes_cmp}
 
 -- the bytes' place among all cells
 module _ (leaves : List (List Cell)) (code : List ℕ) (i from : ℕ) (rising : AreRising leaves) (seat : IsSeat leaves code i) (cells : List Cell) (are : cells ≡ leaf_cells leaves i)

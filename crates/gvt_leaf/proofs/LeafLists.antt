@@ -9,8 +9,9 @@ use Rattle.journal_defs.specs.Leaves.{Cell}
 use Rattle.block_fmt.specs.Cells.{AreBelow, AreAbove, cell_at}
 use Rattle.gvt_leaf.specs.Chained.{leaf_cells, all_cells, replaced}
 use Rattle.gvt_leaf.specs.Order.{Rise}
-use Rattle.gvt_leaf.proofs.Bytes.{bytes_cmp, above_flips, below_flips, same_bytes, rise_before, rise_second, below_more, above_less}
+use Rattle.gvt_leaf.proofs.Bytes.{above_flips, below_flips, same_bytes, rise_before, rise_second, below_more, above_less}
 use Rattle.journal_laws.proofs.ImageSteps.{all_both as all_joined}
+use Rattle.global_defs.proofs.Basics.{bytes_cmp}
 
 pub cells-append : (xs ys : List (List Cell)) → all_cells (xs ++ ys) ≡ all_cells xs ++ all_cells ys
 cells-append xs ys = flat_map-append (λ (l : List Cell). l) xs ys

@@ -11,10 +11,10 @@ use Rattle.gvt_leaf.specs.Chained.{leaf_cells, all_cells}
 use Rattle.gvt_leaf.specs.Listed.{node_cell}
 use Rattle.gvt_leaf.specs.Order.{IsSeat}
 use Rattle.gvt_leaf.specs.declared.nodes.Node.{Node}
-use Rattle.gvt_leaf.proofs.Bytes.{bytes_cmp}
 use Rattle.gvt_leaf.proofs.TakenOut.{AreNotBefore, above_not_before}
 use Rattle.gvt_leaf.proofs.Runs.{run_more, begins, begun_none}
 use Rattle.journal_laws.proofs.ImageSteps.{all_both as all_joined}
+use Rattle.global_defs.proofs.Basics.{bytes_cmp}
 
 -- these nodes have keys that there are
 abbrev pub HaveKeys : List Node → Type 0

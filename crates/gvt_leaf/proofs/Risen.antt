@@ -5,10 +5,12 @@ use Rattle.std.specs.declared.cmp.Ordering.TheVariants.{Less, Equal, Greater}
 use Rattle.std.specs.List.{AllByRecursion}
 use Rattle.std.specs.FinMap as globals
 use Rattle.std.specs.FinMap.Entries as lists
+use Rattle.global_defs.specs.declared.limits.TheConstants.{LONGEST_VALUE}
 use Rattle.journal_defs.specs.Leaves.{Cell, IsEncoded, IsCell}
 use Rattle.block_fmt.specs.Cells.{AreAbove}
 use Rattle.gvt_leaf.specs.Order.{Rise}
-use Rattle.gvt_leaf.proofs.Bytes.{bytes_cmp, below_flips, above_less}
+use Rattle.gvt_leaf.proofs.Bytes.{below_flips, above_less}
+use Rattle.global_defs.proofs.Basics.{bytes_cmp}
 
 above_put : (low : List ℕ) (key value : List ℕ) (cells : List Cell) → AreAbove cells low → bytes_cmp key low ≡ Greater → AreAbove (globals.put bytes_cmp key value cells) low
 above_put low key value [] h k = (k, tt)
@@ -35,7 +37,7 @@ all_filter P p (c ∷ cs) h = elim (p c) as (λ b. AllByRecursion P (cond b (c �
   | false ↦ all_filter P p cs h.1
 ]
 
-pub all_put : (key value : List ℕ) (cells : List Cell) → IsEncoded key → length value ≤ 1500 → AllByRecursion IsCell cells → AllByRecursion IsCell (globals.put bytes_cmp key value cells)
+pub all_put : (key value : List ℕ) (cells : List Cell) → IsEncoded key → length value ≤ LONGEST_VALUE → AllByRecursion IsCell cells → AllByRecursion IsCell (globals.put bytes_cmp key value cells)
 all_put key value [] k v h = ((k, v), tt)
 all_put key value (c ∷ cs) k v h = by (bytes_cmp key c.0) (all_put key value cs k v h.1)
   where

@@ -10,11 +10,12 @@ use Rattle.block_fmt.specs.Cells.{AreBelow, StandsIn, cell_at}
 use Rattle.gvt_leaf.specs.Chained.{leaf_cells, all_cells}
 use Rattle.gvt_leaf.specs.Order.{Rise, AreRising}
 use Rattle.gvt_leaf.proofs.Links.{all-append}
-use Rattle.gvt_leaf.proofs.Bytes.{bytes_cmp, rise_second}
+use Rattle.gvt_leaf.proofs.Bytes.{rise_second}
 use Rattle.gvt_leaf.proofs.LeafLists.{cells-append}
 use Rattle.gvt_leaf.proofs.Updates.{tied, filter-append, filter_all, filter_none, is_outside, is_past, below_past, below_begins}
 use Rattle.gvt_leaf.proofs.TakenOut.{AreNotBefore, above_not_before, FirstOutside, all_outside, ahead, run, after, run_round}
 use Rattle.journal_laws.proofs.ImageSteps.{all_both as all_joined}
+use Rattle.global_defs.proofs.Basics.{bytes_cmp}
 
 -- ---- where a key stands
 

@@ -10,10 +10,10 @@ use Rattle.block_fmt.specs.Cells.{AreBelow, AreAbove, cell_at}
 use Rattle.gvt_leaf.specs.Chained.{leaf_cells, all_cells, replaced}
 use Rattle.gvt_leaf.specs.Order.{AreRising, IsSeat}
 use Rattle.gvn_globals.proofs.Basics.{less_of}
-use Rattle.gvt_leaf.proofs.Bytes.{bytes_cmp}
 use Rattle.gvt_leaf.proofs.LeafLists.{cells_round, cells-replaced, rest_from, leaf_filled, above_from, below_to}
 use Rattle.gvt_leaf.proofs.Updates.{find_between, put_between, removed_between, is_other, is_past, first_of, past_none, past_above, below_past}
 use Rattle.journal_laws.proofs.ImageSteps.{all_both as all_joined}
+use Rattle.global_defs.proofs.Basics.{bytes_cmp}
 
 -- how many cells there are with others in place of a leaf's
 pub count-replaced : (leaves : List (List Cell)) (i : ℕ) (news : List (List Cell)) → i < length leaves

@@ -9,12 +9,13 @@ use Rattle.block_fmt.specs.Cells.{AreBelow, AreAbove, StandsIn, BelongsAt, witho
 use Rattle.gvt_leaf.specs.Chained.{leaf_cells, all_cells, replaced}
 use Rattle.gvt_leaf.specs.Order.{Rise, IsSeat}
 use Rattle.gvt_leaf.specs.Edits.{AreFilledBut, outside}
-use Rattle.gvt_leaf.proofs.Bytes.{bytes_cmp, rise_without}
+use Rattle.gvt_leaf.proofs.Bytes.{rise_without}
 use Rattle.gvt_leaf.proofs.LeafLists.{cells_round, cells-replaced, filled_past, filled_to}
 use Rattle.gvt_leaf.proofs.Updates.{is_other, removed_here, removed_nowhere, is_outside, below_outside, outside_behind, filter_all, killed_some}
 use Rattle.gvt_leaf.proofs.Apart.{length_without}
 use Rattle.gvt_leaf.proofs.Seated.{count-replaced, removed_here_alone, nothing_removed}
 use Rattle.journal_laws.proofs.ImageSteps.{all_both as all_joined}
+use Rattle.global_defs.proofs.Basics.{bytes_cmp}
 
 -- ---- an empty leaf goes
 

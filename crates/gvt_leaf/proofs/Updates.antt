@@ -17,8 +17,9 @@ use Rattle.std.proofs.lemmas.Bool.Decides.{nat_tests}
 use Rattle.journal_defs.specs.Leaves.{Cell}
 use Rattle.block_fmt.specs.Cells.{AreBelow, AreAbove, StandsIn, BelongsAt, cell_at, without_between}
 use Rattle.block_fmt.proofs.Order as order
-use Rattle.gvt_leaf.proofs.Bytes.{bytes_cmp, above_flips, below_flips}
+use Rattle.gvt_leaf.proofs.Bytes.{above_flips, below_flips}
 use Rattle.journal_laws.proofs.ImageSteps.{all_both as all_joined}
+use Rattle.global_defs.proofs.Basics.{bytes_cmp}
 
 -- ---- looking up
 

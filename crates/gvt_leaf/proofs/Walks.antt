@@ -20,9 +20,10 @@ use Rattle.gvt_leaf.specs.Chained.{all_cells}
 use Rattle.gvt_leaf.specs.Order.{Rise, AreRising}
 use Rattle.gvt_leaf.specs.Walked.{leaves_of, go_on, Follows, Breaks, BreaksAt, IsWalked}
 use Rattle.gvt_leaf.proofs.Links.{times-append, Lead_joined, all-append}
-use Rattle.gvt_leaf.proofs.Bytes.{bytes_cmp, above_flips, below_flips, rise_before, rise_second, above_less}
+use Rattle.gvt_leaf.proofs.Bytes.{above_flips, below_flips, rise_before, rise_second, above_less}
 use Rattle.gvt_leaf.proofs.LeafLists.{cells-append}
 use Rattle.journal_laws.proofs.ImageSteps.{all_both as all_joined}
+use Rattle.global_defs.proofs.Basics.{bytes_cmp}
 
 -- ---- rising cells
 

@@ -1,6 +1,7 @@
 -- The globals that cells hold.
 use Rattle.std.specs.Prelude.{ℕ, zero, suc, ◌+◌, ◌==◌, List, [], ◌∷◌, take, drop, map, position, Option, Some, None, unwrap_or}
 use Rattle.std.specs.FinMap as globals
+use Rattle.global_defs.specs.declared.limits.TheConstants.{MOST_SUBS}
 use Rattle.global_defs.specs.Key.{Key, Sub, sub_of, key_cmp}
 use Rattle.global_defs.specs.Entry.{Globals}
 use Rattle.gvn_key.specs.Decoding.{sub_end, sub_read}
@@ -20,7 +21,7 @@ subs_in (suc n) bytes = sub_ending (sub_end bytes) bytes (subs_in n)
 unfoldable pub key_in : List ℕ → Key
 key_in bytes = record {
   name = take (unwrap_or (position (λ b. b == 0) bytes) 0) bytes;
-  subs = subs_in 31 (drop (unwrap_or (position (λ b. b == 0) bytes) 0 + 1) bytes);
+  subs = subs_in MOST_SUBS (drop (unwrap_or (position (λ b. b == 0) bytes) 0 + 1) bytes);
 }
 
 -- the globals whose keys are encoded in these cells

@@ -4,6 +4,7 @@ ghost use Rattle.std.specs.List.{AllByRecursion};
 ghost use Rattle.std.specs.Ordering.{nat_cmp};
 ghost use Rattle.std.specs.Cmp.Lexicographic.{slice_cmp};
 ghost use Rattle.std.specs.FinMap as globals;
+ghost use Rattle.global_defs.specs.declared.limits.TheConstants.{LONGEST_VALUE};
 ghost use Rattle.disk_defs.specs.Disk.{Image, From, OnFile, AtEachMoment, ReadsAfter, MayFailUncounted};
 ghost use Rattle.disk_defs.specs.Frames.{Only, OthersStay};
 ghost use Rattle.global_defs.specs.Entry.{Globals};
@@ -89,7 +90,7 @@ impl Chain {
         requires inside { i < length self.old.leaves }
         requires fits { size_of (globals.put (slice_cmp nat_cmp) key.now value.now (leaf_cells self.old.leaves i)) ≤ ROOM }
         requires key { IsEncoded key.now }
-        requires value { length value.now ≤ 1500 }
+        requires value { length value.now ≤ LONGEST_VALUE }
         ensures leaves { self.new.leaves ≡ replaced self.old.leaves i (globals.put (slice_cmp nat_cmp) key.now value.now (leaf_cells self.old.leaves i) ∷ []) }
         ensures room { self.new.pool.room ≡ self.old.pool.room }
         ensures clean { KeepsClean self.old.pool self.new.pool }
@@ -105,7 +106,7 @@ impl Chain {
         requires place { IfErr place (BelongsAt (leaf_cells self.old.leaves i) key.now) }
         requires fits { size_of (globals.put (slice_cmp nat_cmp) key.now value.now (leaf_cells self.old.leaves i)) ≤ ROOM }
         requires key { IsEncoded key.now }
-        requires value { length value.now ≤ 1500 }
+        requires value { length value.now ≤ LONGEST_VALUE }
         ensures leaves { self.new.leaves ≡ replaced self.old.leaves i (globals.put (slice_cmp nat_cmp) key.now value.now (leaf_cells self.old.leaves i) ∷ []) }
         ensures room { self.new.pool.room ≡ self.old.pool.room }
         ensures clean { KeepsClean self.old.pool self.new.pool }

@@ -4,6 +4,7 @@ ghost use Rattle.std.specs.Ordering.{nat_cmp, eq_by_cmp};
 ghost use Rattle.std.specs.Cmp.Lexicographic.{slice_cmp};
 ghost use Rattle.std.specs.List.{AllByRecursion, starts_with};
 ghost use Rattle.std.specs.FinMap as globals;
+ghost use Rattle.global_defs.specs.declared.limits.TheConstants.{LONGEST_VALUE};
 ghost use Rattle.journal_defs.specs.Leaves.{ROOM, IsEncoded, IsLeaf};
 ghost use Rattle.block_fmt.specs.Cells.{size_of, cell_at, without_between, StandsIn, BelongsAt};
 ghost use Rattle.gvt_leaf.specs.Links.{one_if};
@@ -82,7 +83,7 @@ fn put_apart(chain: &mut Chain, i: usize, place: u32, key: &[u8], value: &[u8])
     requires place { BelongsAt (leaf_cells chain.old.leaves i) key.now place }
     requires full { ROOM < size_of (leaf_cells chain.old.leaves i) + cell_size (key.now, value.now) }
     requires key { IsEncoded key.now }
-    requires value { length value.now ≤ 1500 }
+    requires value { length value.now ≤ LONGEST_VALUE }
     requires room { 1 ≤ chain.old.pool.room }
     ensures put { HasPut chain.old.leaves chain.new.leaves i key.now value.now }
     ensures room { chain.old.pool.room ≡ chain.new.pool.room + 1 }
@@ -120,7 +121,7 @@ fn put_in_leaf(chain: &mut Chain, i: usize, place: Result<u32, u32>, key: &[u8],
     requires found { IfOk place (StandsIn (leaf_cells chain.old.leaves i) key.now) }
     requires place { IfErr place (BelongsAt (leaf_cells chain.old.leaves i) key.now) }
     requires key { IsEncoded key.now }
-    requires value { length value.now ≤ 1500 }
+    requires value { length value.now ≤ LONGEST_VALUE }
     requires room { 1 ≤ chain.old.pool.room }
     ensures put { HasPut chain.old.leaves chain.new.leaves i key.now value.now }
     ensures room { chain.old.pool.room ≤ chain.new.pool.room + 1 }
@@ -138,7 +139,7 @@ fn put_in_leaf(chain: &mut Chain, i: usize, place: Result<u32, u32>, key: &[u8],
 pub(crate) fn set(chain: &mut Chain, key: &[u8], value: &[u8]) -> bool
     requires rising { AreRising chain.old.leaves }
     requires key { IsEncoded key.now }
-    requires value { length value.now ≤ 1500 }
+    requires value { length value.now ≤ LONGEST_VALUE }
     requires room { 1 ≤ chain.old.pool.room }
     ensures cells { all_cells chain.new.leaves ≡ globals.put (slice_cmp nat_cmp) key.now value.now (all_cells chain.old.leaves) }
     ensures rising { AreRising chain.new.leaves }

@@ -1,5 +1,6 @@
 //! Changes of one block of a pool.
 ghost use Rattle.std.specs.Prelude.{◌≡◌, ◌≢◌, ◌≤◌, ◌<◌, ◌+◌, ◌==◌, ℕ, [], length, take, drop, vec_len, vec_capacity, IfOk, IfErr};
+ghost use Rattle.global_defs.specs.declared.limits.TheConstants.{LONGEST_VALUE};
 ghost use Rattle.journal_defs.specs.Leaves.{cell_bytes, ROOM, IsEncoded, IsLeaf};
 ghost use Rattle.block_fmt.specs.Cells.{with_cells, with_cell, without_between, StandsIn, BelongsAt};
 ghost use Rattle.block_pool.specs.Pool.{leaf_at, changed};
@@ -22,7 +23,7 @@ pub(crate) fn put_in(
     requires place { IfErr place (BelongsAt (leaf_at pool.old number).cells key.now) }
     requires fits { length (cell_bytes (with_cell (leaf_at pool.old number) key.now value.now)) ≤ ROOM }
     requires key { IsEncoded key.now }
-    requires value { length value.now ≤ 1500 }
+    requires value { length value.now ≤ LONGEST_VALUE }
     ensures changed { pool.new ≡ changed pool.old number (with_cell (leaf_at pool.old number) key.now value.now) }
     ensures form { IsLeaf (with_cell (leaf_at pool.old number) key.now value.now) }
     ensures clean { KeepsClean pool.old pool.new }

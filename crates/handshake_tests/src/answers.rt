@@ -1,5 +1,6 @@
 // What a primary answers, and over links that are cut.
 ghost use Rattle.std.specs.Prelude.{◌<◌, ◌^◌};
+ghost use Rattle.global_defs.specs.declared.limits.TheConstants.{NUMBERS_END};
 
 use super::histories::{Record, history, many};
 use gvn_key::Bytes;
@@ -21,7 +22,7 @@ fn asked(
     own: &[Record],
     links: &mut MemLinker,
 ) -> Result<Result<Handshake, SessionError>, Fail>
-    requires { own_length < 2 ^ 40 }
+    requires { own_length < NUMBERS_END }
 {
     let theirs = history(alloc, length, records)?;
     let mine = history(alloc, own_length, own)?;

@@ -5,12 +5,14 @@ use Rattle.std.specs.List.{AllByRecursion}
 use Rattle.std.proofs.lemmas.List.Elements.{All-from_recursion}
 use Rattle.std.specs.Int.{to_be_bytes, w32, w64}
 use Rattle.std.specs.Option.{option_map}
+use Rattle.global_defs.specs.declared.limits.TheConstants.{MOST_REGIONS}
 use Rattle.global_defs.specs.Entry.{Reign}
 use Rattle.global_defs.specs.Fields.{short, IsReign}
+use Rattle.global_defs.specs.Region.{Region}
+use Rattle.gvn_model.specs.Regions.{named_region}
 use Rattle.repl_fields.specs.Reading.{ReadsField}
-use Rattle.journal_defs.specs.Instance.{InstanceRecord, Create, Reigned, Cut, Map, Mode, NamedMode, IsInForm, IsInstanceBody, spelled_record, spelled_region}
+use Rattle.journal_defs.specs.Instance.{InstanceRecord, Create, Reigned, Cut, Map, Mode, IsInForm, IsInstanceBody, spelled_record, spelled_region}
 use Rattle.instance_file.specs.Fields.{IsRegion, AreRegions}
-use Rattle.instance_file.specs.Values.{named_mode}
 use Rattle.repl_fields.proofs.Chains.{Field, Reads, byte, word, double, site, and, none_as, out_as, some_as}
 use Rattle.repl_fields.proofs.Tagged.{tail}
 
@@ -34,7 +36,7 @@ module _ {X : Type 0} (f : Field X) (kind : ℕ) (of : X → InstanceRecord) (sa
         (x.1 ∙ ap of both.0, both.1),
   )
 
-create_only : (z : InstanceRecord) (r rest : List ℕ) → 1 ∷ r ≡ spelled_record z ++ rest → (t : List ℕ × List NamedMode) × (z ≡ Create t.0 t.1)
+create_only : (z : InstanceRecord) (r rest : List ℕ) → 1 ∷ r ≡ spelled_record z ++ rest → (t : List ℕ × List Region) × (z ≡ Create t.0 t.1)
 create_only (Create name regions) r rest e = ((name, regions), refl)
 create_only (Reigned x) r rest e = absurd cc
 create_only (Cut n g) r rest e = absurd cc
@@ -105,16 +107,16 @@ counted = and site byte
 abbrev pub head : Field (ℕ × (List ℕ × ℕ))
 head = and byte counted
 
-abbrev create : Field (List ℕ × List NamedMode)
+abbrev create : Field (List ℕ × List Region)
 create = record { has = λ t. IsInForm (Create t.0 t.1); spelled = λ t. 1 ∷ (short t.0 ++ length t.1 ∷ flat_map spelled_region t.1) }
 
-abbrev head_in : List ℕ × List NamedMode → ℕ × (List ℕ × ℕ)
+abbrev head_in : List ℕ × List Region → ℕ × (List ℕ × ℕ)
 head_in t = (1, (t.0, length t.1))
 
-head_good : (t : List ℕ × List NamedMode) → IsInForm (Create t.0 t.1) → head.has (head_in t)
+head_good : (t : List ℕ × List Region) → IsInForm (Create t.0 t.1) → head.has (head_in t)
 head_good t h = (omega arith, (h.0, omega (arith, h.2)))
 
-head_split : (t : List ℕ × List NamedMode) (rest : List ℕ) → create.spelled t ++ rest ≡ head.spelled (head_in t) ++ (flat_map spelled_region t.1 ++ rest)
+head_split : (t : List ℕ × List Region) (rest : List ℕ) → create.spelled t ++ rest ≡ head.spelled (head_in t) ++ (flat_map spelled_region t.1 ++ rest)
 head_split t rest = ap (λ s. 1 ∷ s) (append_assoc (short t.0) (length t.1 ∷ flat_map spelled_region t.1) rest ∙ sym (append_assoc (short t.0) (length t.1 ∷ []) (flat_map spelled_region t.1 ++ rest)))
 
 pub no_head : (bytes : List ℕ) → Reads head bytes None → ReadsField IsInForm spelled_record (1 ∷ bytes) None
@@ -122,18 +124,18 @@ no_head bytes none = tagged create 1 (λ t. Create t.0 t.1) (λ t. refl) (λ t h
     (λ t rest form e. none (head_in t) (flat_map spelled_region t.1 ++ rest) (head_good t form) (e ∙ head_split t rest))
 
 module _ (bytes name : List ℕ) (version n : ℕ) (r : List ℕ) (first : Reads head bytes (Some ((version, (name, n)), r))) where
-  one_head : (t : List ℕ × List NamedMode) (rest : List ℕ) → IsInForm (Create t.0 t.1) → bytes ≡ create.spelled t ++ rest
+  one_head : (t : List ℕ × List Region) (rest : List ℕ) → IsInForm (Create t.0 t.1) → bytes ≡ create.spelled t ++ rest
       → (1 ≡ version) × (t.0 ≡ name) × (length t.1 ≡ n) × (r ≡ flat_map spelled_region t.1 ++ rest)
   one_head t rest form e =
       let same : (head_in t ≡ (version, (name, n))) × (flat_map spelled_region t.1 ++ rest ≡ r) = first.2 (head_in t) (flat_map spelled_region t.1 ++ rest) (head_good t form) (e ∙ head_split t rest) in
       (ap (λ u. u.0) same.0, ap (λ u. u.1.0) same.0, ap (λ u. u.1.1) same.0, sym same.1)
 
   -- another version, or another count
-  pub bad_head : ((1 ≡ version) → (1 ≤ n) → (n ≤ 8) → ⊥) → ReadsField IsInForm spelled_record (1 ∷ bytes) None
+  pub bad_head : ((1 ≡ version) → (1 ≤ n) → (n ≤ MOST_REGIONS) → ⊥) → ReadsField IsInForm spelled_record (1 ∷ bytes) None
   bad_head bad = tagged create 1 (λ t. Create t.0 t.1) (λ t. refl) (λ t h. h) (λ t h. h) create_only bytes None
       (λ t rest form e. let o = one_head t rest form e in bad o.0 (omega (arith, o.2, form.1)) (omega (arith, o.2, form.2)))
 
-  create_read : (p : Option (List NamedMode × List ℕ)) → 1 ≡ version → 1 ≤ n → n ≤ 8 → ReadsField (AreRegions n) (flat_map spelled_region) r p → Reads create bytes (option_map (λ q. ((name, q.0), q.1)) p)
+  create_read : (p : Option (List Region × List ℕ)) → 1 ≡ version → 1 ≤ n → n ≤ MOST_REGIONS → ReadsField (AreRegions n) (flat_map spelled_region) r p → Reads create bytes (option_map (λ q. ((name, q.0), q.1)) p)
   create_read None is some few none = λ t rest form e. let o = one_head t rest form e in none t.1 rest (record { many = o.2; each = form.3 }) o.3
   create_read (Some q) is some few second = (
     (first.0.1.0, omega (arith, second.0.many, some), omega (arith, second.0.many, few), second.0.each),
@@ -145,7 +147,7 @@ module _ (bytes name : List ℕ) (version n : ℕ) (r : List ℕ) (first : Reads
         ((λ i. (o.1 i, later.0 i)), later.1),
   )
 
-  pub regions_read : (p : Option (List NamedMode × List ℕ)) → 1 ≡ version → 1 ≤ n → n ≤ 8 → ReadsField (AreRegions n) (flat_map spelled_region) r p
+  pub regions_read : (p : Option (List Region × List ℕ)) → 1 ≡ version → 1 ≤ n → n ≤ MOST_REGIONS → ReadsField (AreRegions n) (flat_map spelled_region) r p
       → ReadsField IsInForm spelled_record (1 ∷ bytes) (option_map (λ q. (Create name q.0, q.1)) p)
   regions_read None is some few second = tagged create 1 (λ t. Create t.0 t.1) (λ t. refl) (λ t h. h) (λ t h. h) create_only bytes None (create_read None is some few second)
   regions_read (Some q) is some few second =
@@ -159,9 +161,9 @@ pub longer_body : (body : List ℕ) (q : InstanceRecord) (rest : List ℕ) → R
 longer_body body q rest read more r is = more (ap length (sym (read.2 r [] is.form (is.spelled ∙ sym (append-nil (spelled_record r)))).1))
 
 -- regions in the code
-each : (xs : List (List ℕ × Bool)) → AllByRecursion IsRegion (map named_mode xs) → AllByRecursion (λ r. IsRegion (named_mode r)) xs
+each : (xs : List (List ℕ × Bool)) → AllByRecursion IsRegion (map named_region xs) → AllByRecursion (λ r. IsRegion (named_region r)) xs
 each [] all = tt
 each (x ∷ xs) all = (all.0, each xs all.1)
 
-pub each_region : (xs : List (List ℕ × Bool)) → AllByRecursion IsRegion (map named_mode xs) → All (λ r. IsRegion (named_mode r)) xs
-each_region xs all = All-from_recursion (λ r. IsRegion (named_mode r)) xs (each xs all)
+pub each_region : (xs : List (List ℕ × Bool)) → AllByRecursion IsRegion (map named_region xs) → All (λ r. IsRegion (named_region r)) xs
+each_region xs all = All-from_recursion (λ r. IsRegion (named_region r)) xs (each xs all)

@@ -7,7 +7,6 @@ use Rattle.gvn_model.specs.declared.reign.Reign as code
 use Rattle.global_defs.specs.Entry.{Reign}
 use Rattle.journal_defs.specs.Instance.{InstanceRecord, Create, Reigned, Cut, Map, Mode}
 use Rattle.journal_defs.specs.Surviving.{spares_start, reigns}
-use Rattle.journal_defs.specs.Stands.{StartsRise}
 use Rattle.journal_laws.proofs.Later.{reigns-same}
 use Rattle.instance_file.specs.Values.{record_value}
 use Rattle.instance_file.specs.declared.record.InstanceRecord as stored
@@ -15,6 +14,7 @@ use Rattle.instance_file.specs.declared.record.InstanceRecord.TheVariants as var
 use Rattle.site_defs.specs.OutsideInstance.{left_by}
 use Rattle.instance_file.specs.Walks.{surviving_in}
 use Rattle.global_defs.proofs.Starts.{last_start}
+use Rattle.global_defs.specs.Rising.{StartsRise}
 
 abbrev stays : List InstanceRecord → Reign → Bool
 stays later r = list_all (spares_start r.start) later

@@ -5,7 +5,6 @@ use Rattle.std.specs.List.{AllByRecursion}
 use Rattle.global_defs.specs.Entry.{Reign}
 use Rattle.journal_defs.specs.Instance.{InstanceRecord, Reigned, Cut, Map, Mode, pattern_record, generation, regions}
 use Rattle.journal_defs.specs.Surviving.{reigns}
-use Rattle.journal_defs.specs.Stands.{StartsRise}
 use Rattle.journal_laws.proofs.Runs.{reigns-cut, reigns-more, starts_by}
 use Rattle.journal_laws.proofs.Later.{reigns-same}
 use Rattle.instance_file.specs.Order.{AreInOrder}
@@ -13,6 +12,7 @@ use Rattle.global_defs.specs.Pattern.{ends_in_star, stem}
 use Rattle.instance_file.proofs.Orders.{ordered_behind}
 use Rattle.instance_file.proofs.Histories.{rise_push}
 use Rattle.global_defs.proofs.Starts.{last_start}
+use Rattle.global_defs.specs.Rising.{StartsRise}
 
 pub rise_lower : (rs : List Reign) (low high : ℕ) → low ≤ high → StartsRise high rs → StartsRise low rs
 rise_lower [] low high le rise = tt

@@ -6,9 +6,10 @@ use Rattle.disk_defs.specs.Gates.{Body, records, spelled, framed}
 use Rattle.disk_defs.proofs.Texts.{length-framed}
 use Rattle.gated_file.specs.State.{places}
 use Rattle.global_defs.specs.Entry.{Reign}
+use Rattle.global_defs.specs.Rising.{StartsRise}
 use Rattle.journal_defs.specs.Instance.{InstanceRecord, Reigned}
 use Rattle.journal_defs.specs.Surviving.{reigns, spares_start}
-use Rattle.journal_defs.specs.Stands.{IsInstance, StartsRise}
+use Rattle.journal_defs.specs.Stands.{IsInstance}
 use Rattle.site_defs.specs.OutsideInstance.{AreOrdered, HasWrongRecord, HasWrongReign, left_by}
 use Rattle.instance_file.specs.Walks.{IsListed, IsWrongReign}
 use Rattle.instance_file.proofs.Histories.{reigns-append, rise_front}

@@ -6,13 +6,13 @@ use Rattle.std.specs.List.{list_all}
 use Rattle.global_defs.specs.Entry.{Reign}
 use Rattle.journal_defs.specs.Instance.{InstanceRecord, Create, Reigned, Cut, Map, Mode}
 use Rattle.journal_defs.specs.Surviving.{spares_start, reigns}
-use Rattle.journal_defs.specs.Stands.{StartsRise}
 use Rattle.instance_file.specs.Values.{record_value}
 use Rattle.site_defs.specs.OutsideInstance.{left_by}
 use Rattle.instance_file.specs.Walks.{surviving_in, IsWrongReign}
 use Rattle.instance_file.specs.declared.record.InstanceRecord as code
 use Rattle.instance_file.proofs.Histories.{left_next, left_all, as_list, rise_push, rise_past}
 use Rattle.global_defs.proofs.Starts.{last_start, last_push}
+use Rattle.global_defs.specs.Rising.{StartsRise}
 
 some_if : (b : Bool) (q r : Reign) → (if b then Some q else None) ≡ Some r → (b ≡ true) × (q ≡ r)
 some_if true q r is = (refl, cc)

@@ -4,13 +4,14 @@ use Rattle.std.specs.Int.{to_be_bytes, w32, w64}
 use Rattle.std.specs.List.{AllByRecursion}
 use Rattle.disk_defs.specs.Gates.{IsBody}
 use Rattle.global_defs.specs.Fields.{flag, short, IsSiteName}
-use Rattle.journal_defs.specs.Instance.{InstanceRecord, Create, Reigned, Cut, Map, Mode, NamedMode, IsInForm, spelled_record, spelled_region}
+use Rattle.global_defs.specs.Region.{Region}
+use Rattle.journal_defs.specs.Instance.{InstanceRecord, Create, Reigned, Cut, Map, Mode, IsInForm, spelled_record, spelled_region}
 
 site_short : (name : List ℕ) → IsSiteName name → length name ≤ 15
 site_short [] form = absurd form
 site_short (b ∷ bs) form = omega (arith, form.2)
 
-regions_short : (rs : List NamedMode) → AllByRecursion (λ r. IsSiteName r.name) rs → length (flat_map spelled_region rs) ≤ 17 * length rs
+regions_short : (rs : List Region) → AllByRecursion (λ r. IsSiteName r.name) rs → length (flat_map spelled_region rs) ≤ 17 * length rs
 regions_short [] all = omega arith
 regions_short (r ∷ rs) all =
     omega (arith, regions_short rs all.1, site_short r.name all.0, length-append (spelled_region r) (flat_map spelled_region rs), length-append (short r.name) (flag r.before ∷ []))

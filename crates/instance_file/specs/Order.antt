@@ -1,8 +1,8 @@
 -- Which records may follow one another.
 use Rattle.std.specs.Prelude.{◌≡◌, ℕ, ◌<◌, Bool, false, IsTrue, List}
+use Rattle.global_defs.specs.Rising.{StartsRise}
 use Rattle.journal_defs.specs.Instance.{InstanceRecord, Create, Reigned, Cut, Map, Mode}
 use Rattle.journal_defs.specs.Surviving.{reigns}
-use Rattle.journal_defs.specs.Stands.{StartsRise}
 use Rattle.site_defs.specs.OutsideInstance.{AreOrdered}
 
 -- the records are in their order, and the surviving reigns have rising starts

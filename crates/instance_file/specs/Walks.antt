@@ -4,9 +4,9 @@ use Rattle.std.specs.List.{AllZip, list_all}
 use Rattle.disk_defs.specs.Gates.{Body, records}
 use Rattle.gated_file.specs.State.{places}
 use Rattle.global_defs.specs.Entry.{Reign}
+use Rattle.global_defs.specs.Rising.{StartsRise}
 use Rattle.journal_defs.specs.Instance.{InstanceRecord, Create, Reigned, Cut, Map, Mode, IsInstanceBody}
 use Rattle.journal_defs.specs.Surviving.{spares_start, reigns}
-use Rattle.journal_defs.specs.Stands.{StartsRise}
 use Rattle.site_defs.specs.OutsideInstance.{AreOrdered, left_by}
 
 -- the reign that the record is, where it survives those behind

@@ -3,12 +3,13 @@ ghost use Rattle.std.specs.Prelude.{◌≡◌, ◌∷◌, ◌↔◌, [], Bool, I
 ghost use Rattle.std.specs.Option.{option_map};
 ghost use Rattle.std.specs.List.{list_all, flat_map};
 ghost use Rattle.global_defs.specs.Fields.{flag, short, IsSiteName};
+ghost use Rattle.gvn_model.specs.Regions.{named_region};
 ghost use Rattle.std.specs.Char.{is_ascii_alphanumeric};
 ghost use Rattle.journal_defs.specs.Instance.{spelled_region};
 ghost use Rattle.repl_fields.specs.Reading.{ReadsField};
-ghost use Rattle.instance_file.specs.Values.{named_mode};
 ghost use Rattle.instance_file.specs.Fields.{IsGlobalName, IsRegion, AreRegions};
 
+use global_defs::limits::LONGEST_NAME;
 use gvn_key::{Bytes, NoMemory};
 use gvn_model::NamedModes;
 use repl_fields::read_short;
@@ -16,9 +17,6 @@ use std::alloc::Global;
 
 /// How many characters the name of a site, a root or a region may have behind its first.
 const MOST_BEHIND: usize = 14;
-
-/// How many characters the name of a global may have.
-const LONGEST_NAME: usize = 31;
 
 /// Whether all bytes are letters and digits.
 fn all_alphanumeric(bytes: &[u8]) -> bool
@@ -90,7 +88,7 @@ pub fn read_global_name(bytes: &[u8]) -> Option<(&[u8], &[u8])>
 
 /// A region's name and its mode, and what follows them.
 fn read_region(bytes: &[u8]) -> Option<(&[u8], bool, &[u8])>
-    ensures { ReadsField IsRegion spelled_region bytes.now (option_map (λ p. (named_mode (p.0.now, p.1), p.2.now)) result) }
+    ensures { ReadsField IsRegion spelled_region bytes.now (option_map (λ p. (named_region (p.0.now, p.1), p.2.now)) result) }
 {
     let (name, rest) = read_site_name(bytes)?;
     let (before, rest) = read_flag(rest)?;
@@ -103,7 +101,7 @@ pub fn read_regions(
     n: u8,
     bytes: &[u8],
 ) -> Result<Option<(NamedModes, &[u8])>, NoMemory>
-    ensures { IfOk result (λ found. ReadsField (AreRegions n) (flat_map spelled_region) bytes.now (option_map (λ p. (map named_mode p.0, p.1.now)) found)) }
+    ensures { IfOk result (λ found. ReadsField (AreRegions n) (flat_map spelled_region) bytes.now (option_map (λ p. (map named_region p.0, p.1.now)) found)) }
 {
     let mut regions = NamedModes::new(alloc);
     let mut rest = bytes;

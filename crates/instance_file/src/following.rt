@@ -1,9 +1,9 @@
 //! What one more record makes of those before it.
 ghost use Rattle.std.specs.Prelude.{◌≡◌, ◌<◌, ◌↔◌, ◌++◌, ◌∷◌, [], map, List, IsTrue, IfOk};
+ghost use Rattle.global_defs.specs.Rising.{StartsRise};
 ghost use Rattle.gvn_model.specs.Reigns.{reign_value};
 ghost use Rattle.journal_defs.specs.Instance as defs;
 ghost use Rattle.journal_defs.specs.Surviving as surviving;
-ghost use Rattle.journal_defs.specs.Stands.{StartsRise};
 ghost use Rattle.instance_file.specs.Values.{record_value};
 ghost use Rattle.instance_file.specs.Order.{MayStand, last_after};
 

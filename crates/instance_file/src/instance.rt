@@ -1,18 +1,20 @@
 //! An instance file that is open for calls.
 ghost use Rattle.std.specs.Prelude.{◌≡◌, ◌≤◌, ◌<◌, ◌+◌, ◌-◌, ◌^◌, ◌++◌, ◌∷◌, [], ℕ, List, Bool, length, map, MatchOption, Some, IfSome, IfOk, OnOk, OnErr, IsErrOf};
 ghost use Rattle.std.specs.List.{AllByRecursion};
+ghost use Rattle.global_defs.specs.declared.limits.TheConstants.{MOST_GENERATIONS, MOST_REGIONS, NUMBERS_END};
 ghost use Rattle.disk_defs.specs.Disk.{Image, AtEachMoment, MayFailUncounted};
 ghost use Rattle.disk_defs.specs.Frames.{Only, OnlyOn, OthersStay};
 ghost use Rattle.disk_defs.specs.Gates.{records};
 ghost use Rattle.gated_file.specs.Begin.{KeepsRecords};
 ghost use Rattle.global_defs.specs.Fields.{IsReign};
+ghost use Rattle.gvn_model.specs.Regions.{named_region};
 ghost use Rattle.gvn_model.specs.Reigns.{reign_value};
 ghost use Rattle.journal_defs.specs.Numbers.{INSTANCE};
 ghost use Rattle.journal_defs.specs.Instance as defs;
 ghost use Rattle.journal_defs.specs.Instance.{IsInForm};
 ghost use Rattle.journal_defs.specs.Surviving as surviving;
 ghost use Rattle.journal_defs.specs.Stands.{IsInstance};
-ghost use Rattle.instance_file.specs.Values.{record_value, named_mode};
+ghost use Rattle.instance_file.specs.Values.{record_value};
 ghost use Rattle.instance_file.specs.Order.{AreInOrder};
 ghost use Rattle.site_defs.specs.OutsideInstance.{IsOutsideInstance};
 
@@ -26,11 +28,9 @@ use super::writing::encode;
 use gated_file::Gated;
 use gvn_key::{Bytes, NoMemory};
 use gvn_model::{NamedModes, Reign, Reigns};
+use journal_defs::files::INSTANCE_FILE;
 use repl_disk::Disk;
 use std::alloc::Global;
-
-/// The number of the instance file.
-pub const FILE: u32 = 0;
 
 /// A site's instance file, open for calls.
 ///
@@ -56,19 +56,6 @@ fn named_modes(alloc: Global, regions: &[(Bytes, bool)]) -> Result<NamedModes, N
         made.push((name.copy()?, *before))?;
     }
     Ok(made)
-}
-
-/// The greatest cycle of a REIGN, or 0.
-fn greatest_cycle(records: &[InstanceRecord]) -> u32
-    ensures { result ≡ defs.greatest_cycle (map record_value records.now) }
-{
-    let mut greatest = 0;
-    for record in records {
-        if let InstanceRecord::Reign(reign) = record {
-            greatest = reign.stamp.cycle.max(greatest);
-        }
-    }
-    greatest
 }
 
 /// A MAP of a pattern, a name or a name and a star, to a region.
@@ -126,7 +113,7 @@ impl Instance {
         ensures faults { MayFailUncounted (D.disk disk.old).faults (D.disk disk.new).faults (IsErrOf result InstanceError.Failed) }
         ensures outside { (offset : ℕ) → IsErrOf result (InstanceError.NotARecord offset) → ⊥ }
     {
-        let gated = Gated::fresh(alloc, disk, FILE)?;
+        let gated = Gated::fresh(alloc, disk, INSTANCE_FILE)?;
         Ok(Instance {
             gated,
             records: InstanceRecords::new(alloc),
@@ -145,12 +132,12 @@ impl Instance {
         name: &Bytes,
         regions: &[(Bytes, bool)],
     ) -> Result<Instance, InstanceError>
-        requires form { IsInForm (defs.Create name.now (map named_mode regions.now)) }
+        requires form { IsInForm (defs.Create name.now (map named_region regions.now)) }
         requires empty { IfSome (D.disk disk.old).content (λ files. records (files INSTANCE) ≡ Some []) }
         ensures ready { IfOk result (λ made. IsReady (D.disk disk.new) made) }
-        ensures records { IfOk result (λ made. made.records ≡ defs.Create name.now (map named_mode regions.now) ∷ []) }
-        ensures state { IfOk result (λ made. IfSome (D.disk disk.old).content (λ _. HasRecords (D.disk disk.new) made (defs.Create name.now (map named_mode regions.now) ∷ []))) }
-        ensures any_moment { IfSome (D.disk disk.old).content (λ _. AtEachMoment (D.disk disk.old) (D.disk disk.new) (MayCreate (D.disk disk.old) (defs.Create name.now (map named_mode regions.now)))) }
+        ensures records { IfOk result (λ made. made.records ≡ defs.Create name.now (map named_region regions.now) ∷ []) }
+        ensures state { IfOk result (λ made. IfSome (D.disk disk.old).content (λ _. HasRecords (D.disk disk.new) made (defs.Create name.now (map named_region regions.now) ∷ []))) }
+        ensures any_moment { IfSome (D.disk disk.old).content (λ _. AtEachMoment (D.disk disk.old) (D.disk disk.new) (MayCreate (D.disk disk.old) (defs.Create name.now (map named_region regions.now)))) }
         ensures frame { OthersStay (Only INSTANCE) (D.disk disk.old) (D.disk disk.new) }
         ensures faults { MayFailUncounted (D.disk disk.old).faults (D.disk disk.new).faults (IsErrOf result InstanceError.Failed) }
         ensures outside { (offset : ℕ) → IsErrOf result (InstanceError.NotARecord offset) → ⊥ }
@@ -180,7 +167,7 @@ impl Instance {
         ensures frame { OthersStay (Only INSTANCE) (D.disk disk.old) (D.disk disk.new) }
         ensures faults { MayFailUncounted (D.disk disk.old).faults (D.disk disk.new).faults (IsErrOf result InstanceError.Failed) }
     {
-        let mut gated = Gated::attach(alloc, disk, FILE)?;
+        let mut gated = Gated::attach(alloc, disk, INSTANCE_FILE)?;
         let (records, history) = read_whole(&mut gated, disk)?;
         Ok(Instance {
             gated,
@@ -228,9 +215,9 @@ impl Instance {
     ) -> Result<(), InstanceError>
         requires ready { IsReady (D.disk disk.old) self.old }
         requires created { 0 < length self.old.records }
-        requires length { n < 2 ^ 40 }
+        requires length { n < NUMBERS_END }
         requires past { defs.generation self.old.records < generation }
-        requires generation { generation ≤ 65535 }
+        requires generation { generation ≤ MOST_GENERATIONS }
         ensures ready { OnOk result (IsReady (D.disk disk.new) self.new) }
         ensures records { OnOk result (self.new.records ≡ self.old.records ++ defs.Cut n generation ∷ []) }
         ensures state { OnOk result ((rs : List defs.InstanceRecord) → HasRecords (D.disk disk.old) self.old rs → HasRecords (D.disk disk.new) self.new (rs ++ defs.Cut n generation ∷ [])) }
@@ -293,7 +280,7 @@ impl Instance {
     ) -> Result<(), InstanceError>
         requires ready { IsReady (D.disk disk.old) self.old }
         requires created { region < length (defs.regions self.old.records) }
-        requires form { region < 8 }
+        requires form { region < MOST_REGIONS }
         ensures ready { OnOk result (IsReady (D.disk disk.new) self.new) }
         ensures records { OnOk result (self.new.records ≡ self.old.records ++ defs.Mode region before ∷ []) }
         ensures state { OnOk result ((rs : List defs.InstanceRecord) → HasRecords (D.disk disk.old) self.old rs → HasRecords (D.disk disk.new) self.new (rs ++ defs.Mode region before ∷ [])) }
@@ -321,7 +308,7 @@ impl Instance {
     pub fn draw_cycle(&self) -> Option<u32>
         ensures { MatchOption result (defs.greatest_cycle self.now.records ≡ 2 ^ 32 - 1) (λ cycle. cycle ≡ defs.greatest_cycle self.now.records + 1) }
     {
-        greatest_cycle(self.records.as_slice()).checked_add(1)
+        self.records.greatest_cycle().checked_add(1)
     }
 
     /// All records, in their order.

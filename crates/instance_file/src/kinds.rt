@@ -7,6 +7,7 @@ ghost use Rattle.instance_file.specs.Values.{record_value};
 
 use super::fields::{read_flag, read_global_name, read_regions, read_site_name};
 use super::record::InstanceRecord;
+use global_defs::limits::{MOST_GENERATIONS, MOST_REGIONS, NUMBERS_END};
 use gvn_key::{Bytes, NoMemory};
 use gvn_model::{Reign, Stamp};
 use repl_fields::{read_u8, read_u32, read_u64};
@@ -14,12 +15,6 @@ use std::alloc::Global;
 
 /// The only version of the layout.
 const VERSION: u8 = 1;
-
-/// How many regions there can be.
-const MOST_REGIONS: u8 = 8;
-
-/// The greatest generation.
-const LAST_GENERATION: u32 = 65535;
 
 /// A CREATE by its fields, and what follows them.
 pub fn read_create(alloc: Global, bytes: &[u8]) -> Result<Option<(InstanceRecord, &[u8])>, NoMemory>
@@ -46,9 +41,9 @@ pub fn read_create(alloc: Global, bytes: &[u8]) -> Result<Option<(InstanceRecord
 
 /// Whether a reign may have this cycle and this start.
 fn is_in_range(cycle: u32, start: u64) -> bool
-    ensures { IsTrue result ↔ ((1 ≤ cycle) × (1 ≤ start) × (start ≤ 2 ^ 40)) }
+    ensures { IsTrue result ↔ ((1 ≤ cycle) × (1 ≤ start) × (start ≤ NUMBERS_END)) }
 {
-    cycle >= 1 && (1..=1 << 40).contains(&start)
+    cycle >= 1 && (1..=NUMBERS_END).contains(&start)
 }
 
 /// A REIGN by its fields, and what follows them.
@@ -81,7 +76,7 @@ pub fn read_cut(bytes: &[u8]) -> Option<(InstanceRecord, &[u8])>
 {
     let (length, rest) = read_u64(bytes)?;
     let (generation, rest) = read_u32(rest)?;
-    if length >= 1 << 40 || generation == 0 || LAST_GENERATION < generation {
+    if length >= NUMBERS_END || generation == 0 || MOST_GENERATIONS < generation {
         return None;
     }
     Some((InstanceRecord::Cut { length, generation }, rest))

@@ -14,11 +14,12 @@ ghost use Rattle.site_defs.specs.OutsideInstance.{IsOutsideInstance};
 ghost use Rattle.instance_file.specs.Instance.{HasRecords, IsReady};
 
 use super::error::InstanceError;
-use super::instance::{FILE, Instance};
+use super::instance::Instance;
 use super::records::InstanceRecords;
 use super::walking::read_whole;
 use gated_file::{Gated, see_gates, sync_file};
 use gvn_model::Reigns;
+use journal_defs::files::INSTANCE_FILE;
 use repl_disk::Disk;
 use std::alloc::Global;
 
@@ -49,9 +50,9 @@ impl InstanceLog {
         ensures frame { OthersStay (Only INSTANCE) (D.disk disk.old) (D.disk disk.new) }
         ensures faults { MayFailUncounted (D.disk disk.old).faults (D.disk disk.new).faults (IsErrOf result InstanceError.Failed) }
     {
-        sync_file(disk, FILE)?;
-        see_gates(disk, FILE)?;
-        let (records, history) = read_whole(&mut Gated::reading(alloc, FILE), disk)?;
+        sync_file(disk, INSTANCE_FILE)?;
+        see_gates(disk, INSTANCE_FILE)?;
+        let (records, history) = read_whole(&mut Gated::reading(alloc, INSTANCE_FILE), disk)?;
         Ok(InstanceLog { records, history })
     }
 }
@@ -77,7 +78,7 @@ impl Instance {
         ensures outside { (offset : ℕ) → IsErrOf result (InstanceError.NotARecord offset) → IfSome (D.disk disk.old).content (λ _. ⊥) }
     {
         let InstanceLog { records, history } = log;
-        let gated = Gated::attach(alloc, disk, FILE)?;
+        let gated = Gated::attach(alloc, disk, INSTANCE_FILE)?;
         Ok(Instance {
             gated,
             records,

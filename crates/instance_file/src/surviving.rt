@@ -1,10 +1,10 @@
 //! Which reigns the CUTs behind them leave, in one walk from the last record to the first.
 ghost use Rattle.std.specs.Prelude.{◌≡◌, ◌-◌, ◌^◌, ℕ, List, length, map, IfOk};
 ghost use Rattle.std.specs.Option.{option_map};
+ghost use Rattle.global_defs.specs.Rising.{StartsRise};
 ghost use Rattle.gvn_model.specs.Reigns.{reign_value};
 ghost use Rattle.journal_defs.specs.Instance as defs;
 ghost use Rattle.journal_defs.specs.Surviving as surviving;
-ghost use Rattle.journal_defs.specs.Stands.{StartsRise};
 ghost use Rattle.instance_file.specs.Values.{record_value};
 ghost use Rattle.instance_file.specs.Walks.{IsWrongReign, bound, bound_with, bounds_behind, surviving_in};
 

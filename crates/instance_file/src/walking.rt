@@ -7,7 +7,7 @@ ghost use Rattle.gated_file.specs.State.{places};
 ghost use Rattle.journal_defs.specs.Instance as defs;
 ghost use Rattle.journal_defs.specs.Instance.{IsInForm, IsInstanceBody};
 ghost use Rattle.journal_defs.specs.Surviving as surviving;
-ghost use Rattle.journal_defs.specs.Stands.{IsInstance, StartsRise};
+ghost use Rattle.journal_defs.specs.Stands.{IsInstance};
 ghost use Rattle.instance_file.specs.Values.{record_value};
 ghost use Rattle.instance_file.specs.Order.{AreInOrder};
 ghost use Rattle.site_defs.specs.OutsideInstance.{AreOrdered, HasWrongRecord, HasWrongReign};

@@ -3,9 +3,10 @@ ghost use Rattle.std.specs.Prelude.{◌≡◌, ◌++◌, map, All, IfOk, OnOk};
 ghost use Rattle.std.specs.List.{flat_map};
 ghost use Rattle.global_defs.specs.Fields as fields;
 ghost use Rattle.global_defs.specs.Fields.{IsReign};
+ghost use Rattle.gvn_model.specs.Regions.{named_region};
 ghost use Rattle.gvn_model.specs.Reigns.{reign_value};
 ghost use Rattle.journal_defs.specs.Instance.{spelled_region, spelled_record, Reigned, IsInForm};
-ghost use Rattle.instance_file.specs.Values.{named_mode, record_value};
+ghost use Rattle.instance_file.specs.Values.{record_value};
 ghost use Rattle.instance_file.specs.Fields.{IsRegion};
 
 use super::record::InstanceRecord;
@@ -23,8 +24,8 @@ fn flag_byte(flag: bool) -> u8
 
 /// Adds a region's name and its mode at the end.
 fn write_region(name: &Bytes, before: bool, out: &mut Bytes) -> Result<(), NoMemory>
-    requires { IsRegion (named_mode (name.now, before)) }
-    ensures { OnOk result (out.new ≡ out.old ++ spelled_region (named_mode (name.now, before))) }
+    requires { IsRegion (named_region (name.now, before)) }
+    ensures { OnOk result (out.new ≡ out.old ++ spelled_region (named_region (name.now, before))) }
 {
     write_short(name.as_slice(), out)?;
     out.push(flag_byte(before))
@@ -32,8 +33,8 @@ fn write_region(name: &Bytes, before: bool, out: &mut Bytes) -> Result<(), NoMem
 
 /// Adds regions at the end, one behind the other.
 fn write_regions(regions: &[(Bytes, bool)], out: &mut Bytes) -> Result<(), NoMemory>
-    requires { All (λ r. IsRegion (named_mode r)) regions.now }
-    ensures { OnOk result (out.new ≡ out.old ++ flat_map spelled_region (map named_mode regions.now)) }
+    requires { All (λ r. IsRegion (named_region r)) regions.now }
+    ensures { OnOk result (out.new ≡ out.old ++ flat_map spelled_region (map named_region regions.now)) }
 {
     for (name, before) in regions {
         write_region(name, *before, out)?;

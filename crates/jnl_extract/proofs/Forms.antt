@@ -2,6 +2,7 @@
 use Rattle.std.proofs.Common.{◌≡◌, ℕ, ◌≤◌, Bool, true, false, cond, List, [], ◌∷◌, length, Option, Some, None, refl, ap, ◌∙◌, nat_lt}
 use Rattle.std.specs.List.{AllByRecursion}
 use Rattle.std.proofs.lemmas.Bool.{ltb-false}
+use Rattle.global_defs.specs.declared.limits.TheConstants.{LONGEST_VALUE, MOST_UPDATES}
 use Rattle.global_defs.specs.Key.{Key}
 use Rattle.global_defs.specs.Entry.{Update, Set, Kill, ZKill, Entry}
 use Rattle.global_defs.specs.Jobs.{Statement}
@@ -35,7 +36,7 @@ node_key {t} {key} p =
 
 -- of a statement that makes an update
 abbrev IsMade : Statement → Type 0
-IsMade (jobs.Set key value) = (is_key key ≡ true) × (length value ≤ 1500)
+IsMade (jobs.Set key value) = (is_key key ≡ true) × (length value ≤ LONGEST_VALUE)
 IsMade (jobs.Kill key) = is_key key ≡ true
 IsMade (jobs.ZKill key) = is_key key ≡ true
 IsMade _ = Unit {0}
@@ -60,7 +61,7 @@ updates_of_form : (us : List Update) → AllByRecursion IsSpelled us → AllByRe
 updates_of_form [] p = tt
 updates_of_form (u ∷ us) p = (update_of_form u p.0, updates_of_form us p.1)
 
-pub entry_of_form : (e : Entry) → IsStamp e.stamp → IsOrigin e.transaction.origin → 1 ≤ length e.transaction.updates → length e.transaction.updates ≤ 256 → AllByRecursion IsSpelled e.transaction.updates → IsEntry e
+pub entry_of_form : (e : Entry) → IsStamp e.stamp → IsOrigin e.transaction.origin → 1 ≤ length e.transaction.updates → length e.transaction.updates ≤ MOST_UPDATES → AllByRecursion IsSpelled e.transaction.updates → IsEntry e
 entry_of_form e s o some few each = record {
   stamp = s;
   transaction = record { origin = o; some = some; few = few; each = updates_of_form e.transaction.updates each };

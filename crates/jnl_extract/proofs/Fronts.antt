@@ -6,6 +6,7 @@ use Rattle.std.proofs.lemmas.List.{append-nil, map-append, append_cancel_left}
 use Rattle.std.proofs.lemmas.Fmt.{decimal_injective}
 use Rattle.std.proofs.lemmas.List.Concat.{flat_map-append}
 use Rattle.std.proofs.lemmas.Bool.{cases_lt, eqb-true}
+use Rattle.global_defs.specs.declared.limits.TheConstants.{NUMBERS_END}
 use Rattle.global_defs.specs.Entry.{Update, Set, Kill, ZKill, Entry, Sequence}
 use Rattle.global_defs.specs.Jobs as jobs
 use Rattle.global_defs.specs.Fields.{IsSiteName}
@@ -48,7 +49,7 @@ line_clean l i =
     (clean_both (decimal h.number) (92 ∷ (stamp_text h.stamp ++ 92 ∷ line_rest l)) (number_clean 10 h.number refl (head_is l i).number)
     (clean_both (stamp_text h.stamp) (92 ∷ line_rest l) (clean_stamp h (head_is l i)) (clean_rest l i)))
 
-pub header_clean : (site : List ℕ) (from : ℕ) → IsSiteName site → from ≤ 2 ^ 40 → Clean (header_body site from)
+pub header_clean : (site : List ℕ) (from : ℕ) → IsSiteName site → from ≤ NUMBERS_END → Clean (header_body site from)
 header_clean site from i r = clean_both site (92 ∷ decimal from) (name_clean 10 site refl i) (number_clean 10 from refl (omega (arith, r)))
 
 -- texts are cut into their lines in one way
@@ -104,7 +105,7 @@ entry_fit h [] i p = tt
 entry_fit h (u ∷ []) i p = ((i, p.0), tt)
 entry_fit h (u ∷ v ∷ us) i p = (i, all_more IsLine (map (Holds h) (u ∷ v ∷ us)) (Closes h ∷ []) (holds_fit h (u ∷ v ∷ us) i p) (i, tt))
 
-pub lines_fit : (n : ℕ) (es : Sequence) → n + length es ≤ 2 ^ 40 → AllByRecursion IsEntry es → AllByRecursion IsLine (all_lines (enumerate_from n es))
+pub lines_fit : (n : ℕ) (es : Sequence) → n + length es ≤ NUMBERS_END → AllByRecursion IsEntry es → AllByRecursion IsLine (all_lines (enumerate_from n es))
 lines_fit n [] r i = tt
 lines_fit n (e ∷ es) r i =
     let h : IsHead (head_of (n, e)) = record { number = omega (arith, r); stamp = i.0.stamp; origin = i.0.transaction.origin } in
@@ -118,7 +119,7 @@ pending_fit next (Some p) i =
 
 stage_fit : (from : ℕ) (s : Stage) → IsStage from s → AllByRecursion IsLine (stage_lines s)
 stage_fit from s a =
-    let r : from + length (entries_of s.entries) ≤ 2 ^ 40 = omega (arith, a.entries.next_is, a.entries.room, same_length s.entries) in
+    let r : from + length (entries_of s.entries) ≤ NUMBERS_END = omega (arith, a.entries.next_is, a.entries.room, same_length s.entries) in
     all_more IsLine (all_lines s.entries) (pending_lines s.pending)
     (subst (λ (ps : List (ℕ × Entry)). AllByRecursion IsLine (all_lines ps)) (sym a.entries.numbered) (lines_fit from (entries_of s.entries) r a.entries.each))
     (pending_fit s.next s.pending a.pending)
@@ -239,7 +240,7 @@ read_whole text site from rest s b r n = record {
 
 pub record Beyond (from : ℕ) (es : Sequence) (s : Stage) (x : List ℕ) : Type 0 where
   pub each : AllByRecursion IsEntry es
-  pub room : from + length es ≤ 2 ^ 40
+  pub room : from + length es ≤ NUMBERS_END
   pub more : List Line
   pub good : AllByRecursion IsLine more
   pub lines_are : all_lines (enumerate_from from es) ≡ stage_lines s ++ more
@@ -250,27 +251,27 @@ same_site site name from n p q e =
     let f : site ++ 92 ∷ decimal from ≡ name ++ 92 ∷ decimal n = append_cancel_left (codes "GTMRJEX01\\") (site ++ 92 ∷ decimal from) (name ++ 92 ∷ decimal n) e in
     (one_cut 92 site (decimal from) name (decimal n) (name_clean 92 site refl p) (name_clean 92 name refl q) f).0
 
-pub same_from : (site name : List ℕ) (from n : ℕ) → IsSiteName site → IsSiteName name → from ≤ 2 ^ 40 → n ≤ 2 ^ 40 → header_body site from ≡ header_body name n → from ≡ n
+pub same_from : (site name : List ℕ) (from n : ℕ) → IsSiteName site → IsSiteName name → from ≤ NUMBERS_END → n ≤ NUMBERS_END → header_body site from ≡ header_body name n → from ≡ n
 same_from site name from n p q a b e =
     let f : site ++ 92 ∷ decimal from ≡ name ++ 92 ∷ decimal n = append_cancel_left (codes "GTMRJEX01\\") (site ++ 92 ∷ decimal from) (name ++ 92 ∷ decimal n) e in
     let g = one_cut 92 site (decimal from) name (decimal n) (name_clean 92 site refl p) (name_clean 92 name refl q) f in
     decimal_injective from n (omega (arith, a)) (omega (arith, b)) g.1
 
-beyond : (site : List ℕ) (from : ℕ) (s : Stage) (x name : List ℕ) (n : ℕ) (es : Sequence) → IsSiteName site → from ≤ 2 ^ 40 → IsStage from s → IsExtract name n es
+beyond : (site : List ℕ) (from : ℕ) (s : Stage) (x name : List ℕ) (n : ℕ) (es : Sequence) → IsSiteName site → from ≤ NUMBERS_END → IsStage from s → IsExtract name n es
     → extract_text name n es ≡ (header_body site from ++ 10 ∷ []) ++ (text_of (stage_lines s) ++ x) → Beyond from es s x
 beyond site from s x name n es p r a v e =
-    let small : n ≤ 2 ^ 40 = omega (arith, v.last) in
+    let small : n ≤ NUMBERS_END = omega (arith, v.last) in
     let h = one_line (header_body name n) (header_body site from) (text_of (all_lines (enumerate_from n es))) (text_of (stage_lines s) ++ x)
     (header_clean name n v.name small) (header_clean site from p r) (sym (extract_is name n es) ∙ e) in
     let same : n ≡ from = same_from name site n from v.name p small r h.0 in
-    let room : from + length es ≤ 2 ^ 40 = omega (arith, same, v.last) in
+    let room : from + length es ≤ NUMBERS_END = omega (arith, same, v.last) in
     let c = common (all_lines (enumerate_from from es)) (stage_lines s) x (lines_fit from es room v.each) (stage_fit from s a)
     (ap (λ (k : ℕ). text_of (all_lines (enumerate_from k es))) (sym same) ∙ h.1) in
     record { each = v.each; room = room; more = c.more; good = c.good; lines_are = c.lines_are; rest_is = c.rest_is }
 
 -- what a stage refuses
 
-no_line : (site : List ℕ) (from : ℕ) (s : Stage) (left name line rest more : List ℕ) (n : ℕ) (es : Sequence) → IsSiteName site → from ≤ 2 ^ 40 → IsStage from s → Refuses s left → IsExtract name n es
+no_line : (site : List ℕ) (from : ℕ) (s : Stage) (left name line rest more : List ℕ) (n : ℕ) (es : Sequence) → IsSiteName site → from ≤ NUMBERS_END → IsStage from s → Refuses s left → IsExtract name n es
     → Clean line → left ≡ line ++ 10 ∷ more → extract_text name n es ≡ (header_body site from ++ 10 ∷ []) ++ (text_of (stage_lines s) ++ ((line ++ 10 ∷ []) ++ rest)) → ⊥
 no_line site from s left name line rest more n es p r a refuses v c is e =
     let b = beyond site from s ((line ++ 10 ∷ []) ++ rest) name n es p r a v e in
@@ -279,7 +280,7 @@ no_line site from s left name line rest more n es p r a refuses v c is e =
     (refuses f.line more f.good (is ∙ ap (λ (x : List ℕ). x ++ 10 ∷ more) (sym f.body_is)))
 
 ends_somewhere : (site : List ℕ) (from : ℕ) (s : Stage) (left : List ℕ) (es : Sequence) (more : List Line) → IsStage from s → Refuses s left → (left ≡ [] → s.pending ≡ None → ⊥)
-    → AllByRecursion IsEntry es → from + length es ≤ 2 ^ 40 → AllByRecursion IsLine more → all_lines (enumerate_from from es) ≡ stage_lines s ++ more → left ≡ text_of more → ⊥
+    → AllByRecursion IsEntry es → from + length es ≤ NUMBERS_END → AllByRecursion IsLine more → all_lines (enumerate_from from es) ≡ stage_lines s ++ more → left ≡ text_of more → ⊥
 ends_somewhere site from s left es [] a refuses o i r g e is = unended from s es a i r (o is) (e ∙ append-nil (stage_lines s))
 ends_somewhere site from s left es (l ∷ more) a refuses o i r g e is =
     refused from s es l more a i r e (refuses l (text_of more) g.0 (is ∙ append_assoc (line_body l) (10 ∷ []) (text_of more)))
@@ -305,7 +306,7 @@ bad_here text site from rest s left b r refuses o =
 
 -- a text without a header
 
-pub no_header : (text : List ℕ) → ((site : List ℕ) (from : ℕ) (more : List ℕ) → IsSiteName site → 1 ≤ from → from ≤ 2 ^ 40 → text ≡ header_body site from ++ 10 ∷ more → ⊥) → IsBadLine text 0
+pub no_header : (text : List ℕ) → ((site : List ℕ) (from : ℕ) (more : List ℕ) → IsSiteName site → 1 ≤ from → from ≤ NUMBERS_END → text ≡ header_body site from ++ 10 ∷ more → ⊥) → IsBadLine text 0
 no_header text none = record {
   lines = [];
   rest = text;
@@ -313,7 +314,7 @@ no_header text none = record {
   place = refl;
   front = record { site = 65 ∷ []; from = 1; entries = []; rest = extract_text (65 ∷ []) 1 []; form = record { name = (refl, refl, omega arith); first = omega arith; last = omega arith; each = tt }; begins = refl };
   outside = λ line more c is f.
-      (let small : f.from ≤ 2 ^ 40 = omega (arith, f.form.last) in
+      (let small : f.from ≤ NUMBERS_END = omega (arith, f.form.last) in
       let h = one_line (header_body f.site f.from) line (text_of (all_lines (enumerate_from f.from f.entries))) f.rest (header_clean f.site f.from f.form.name small) c
       (sym (extract_is f.site f.from f.entries) ∙ f.begins) in
       none f.site f.from more f.form.name f.form.first small (is ∙ ap (λ (x : List ℕ). x ++ 10 ∷ more) (sym h.0)));

@@ -5,6 +5,7 @@ use Rattle.std.specs.Str.{bytes_eq}
 use Rattle.std.proofs.lemmas.List.{append-nil, map-append}
 use Rattle.std.proofs.lemmas.List.Concat.{flat_map-append}
 use Rattle.std.proofs.lemmas.Bool.{and_parts, eqb-true, eq-eqb, ltb-true}
+use Rattle.global_defs.specs.declared.limits.TheConstants.{NUMBERS_END}
 use Rattle.global_defs.specs.Entry.{Update, Entry, Sequence}
 use Rattle.global_defs.specs.Fields.{IsStamp, IsOrigin}
 use Rattle.jnl_extract.specs.Extracts.{IsSpelled, IsEntry}
@@ -19,7 +20,7 @@ entries_of ps = map (λ p. p.1) ps
 -- an entry that is being read
 pub record IsPending (next : ℕ) (p : ℕ × Entry) : Type 0 where
   pub number : p.0 ≡ next
-  pub below : next < 2 ^ 40
+  pub below : next < NUMBERS_END
   pub stamp : IsStamp p.1.stamp
   pub origin : IsOrigin p.1.transaction.origin
   pub few : length (updates_of p) ≤ 256
@@ -34,7 +35,7 @@ pub record AreEntries (from next : ℕ) (entries : List (ℕ × Entry)) : Type 0
   pub next_is : next ≡ from + length entries
   pub numbered : entries ≡ enumerate_from from (entries_of entries)
   pub each : AllByRecursion IsEntry (entries_of entries)
-  pub room : next ≤ 2 ^ 40
+  pub room : next ≤ NUMBERS_END
 
 pub record IsStage (from : ℕ) (s : Stage) : Type 0 where
   pub entries : AreEntries from s.next s.entries
@@ -68,7 +69,7 @@ same_length [] = refl
 same_length (p ∷ entries) = ap suc (same_length entries)
 
 -- one entry more
-pub pushed : (from next : ℕ) (entries : List (ℕ × Entry)) (p : ℕ × Entry) → AreEntries from next entries → p.0 ≡ next → next < 2 ^ 40 → IsEntry p.1 → AreEntries from (next + 1) (entries ++ p ∷ [])
+pub pushed : (from next : ℕ) (entries : List (ℕ × Entry)) (p : ℕ × Entry) → AreEntries from next entries → p.0 ≡ next → next < NUMBERS_END → IsEntry p.1 → AreEntries from (next + 1) (entries ++ p ∷ [])
 pushed from next entries p a n small e =
     let number : p.0 ≡ from + length (entries_of entries) = n ∙ a.next_is ∙ ap (λ (k : ℕ). from + k) (same_length entries) in
     record {
@@ -98,11 +99,11 @@ ends xs l = append-nil (xs ++ l ∷ []) ∙ ap (λ (x : List Line). x ++ l ∷ [
 begins : (from next : ℕ) (entries : List (ℕ × Entry)) (l : Line) (t : Stage) → AreEntries from next entries → IsLine l → begun next entries l ≡ Some t → Goes from entries None l t
 begins from next entries (Opens h) t a i e =
     let s = if_some (follows next h) (stage_of next entries (Some (made_entry h []))) t e in
-    let f = and_parts (h.number == next) (nat_lt next (2 ^ 40)) s.0 in
+    let f = and_parts (h.number == next) (nat_lt next NUMBERS_END) s.0 in
     let at : Goes from entries None (Opens h) (stage_of next entries (Some (made_entry h []))) = record {
       stage = record {
         entries = a;
-        pending = record { number = eqb-true h.number next f.0; below = ltb-true next (2 ^ 40) f.1; stamp = i.stamp; origin = i.origin; few = omega arith; each = tt };
+        pending = record { number = eqb-true h.number next f.0; below = ltb-true next NUMBERS_END f.1; stamp = i.stamp; origin = i.origin; few = omega arith; each = tt };
       };
       lines = ap (λ (x : List Line). x ++ Opens h ∷ []) (sym (append-nil (all_lines entries)));
     } in
@@ -110,10 +111,10 @@ begins from next entries (Opens h) t a i e =
 begins from next entries (Holds h u) t a i e =
     let p : ℕ × Entry = made_entry h (u ∷ []) in
     let s = if_some (follows next h) (stage_of (next + 1) (entries ++ p ∷ []) None) t e in
-    let f = and_parts (h.number == next) (nat_lt next (2 ^ 40)) s.0 in
+    let f = and_parts (h.number == next) (nat_lt next NUMBERS_END) s.0 in
     let good : IsEntry p.1 = entry_of_form p.1 i.0.stamp i.0.origin (omega arith) (omega arith) (i.1, tt) in
     let at : Goes from entries None (Holds h u) (stage_of (next + 1) (entries ++ p ∷ []) None) = record {
-      stage = record { entries = pushed from next entries p a (eqb-true h.number next f.0) (ltb-true next (2 ^ 40) f.1) good; pending = tt };
+      stage = record { entries = pushed from next entries p a (eqb-true h.number next f.0) (ltb-true next NUMBERS_END f.1) good; pending = tt };
       lines = ap (λ (x : List Line). x ++ []) (flat_map-append entry_lines entries (p ∷ [])) ∙ ends (all_lines entries) (Holds h u);
     } in
     subst (Goes from entries None (Holds h u)) s.1 at

@@ -1,20 +1,18 @@
 -- Numbers in digits.
 use Rattle.std.proofs.Common.{◌≡◌, ℕ, zero, suc, ◌<◌, ◌^◌, ◌≢◌, List, [], ◌∷◌, length, get_or, sym, ◌∙◌, ap, subst, arith, Ok, Err, inl, inr}
 use Rattle.std.specs.Prelude.{Bool, true, false, MatchBool, Result, decimal, IsUtf8, ◌⊎◌}
-use Rattle.std.specs.Str.Parse.{AllDigits, digits_value, ParsesUnsigned}
-use Rattle.std.proofs.lemmas.Str.Parse.{IsNumeralModel, numerals_by_value, tells_digits, parse_plain}
+use Rattle.std.specs.Str.Parse.{ParsesUnsigned}
+use Rattle.std.proofs.lemmas.Str.Parse.{parse_plain}
 use Rattle.std.proofs.lemmas.Str.{IsUtf8-from_ascii}
 use Rattle.std.proofs.lemmas.Fmt.{parse-decimal, decimal_digit, first_decimal, decimal-digits_value, IsAscii-decimal}
+use Rattle.global_defs.proofs.Basics.{numeral_by_value}
 
-own : IsNumeralModel (AllDigits 10) (digits_value 10)
-own = numerals_by_value (AllDigits 10) tells_digits
-
--- text that was read as a number is the number's own
+-- text that was read as a number is the number's numeral_by_value
 pub own_text : {E : Type 0} (text : List ℕ) (r : Result ℕ E) (n : ℕ) → ParsesUnsigned 64 10 text r → r ≡ Ok n → get_or text 0 0 ≢ 43 → (get_or text 0 0 ≡ 48 → length text ≡ 1) → (n < 2 ^ 64) × (text ≡ decimal n)
 own_text {E} text r n h e plus lead =
     let q : ParsesUnsigned {E = E} 64 10 text (Ok n) = subst (λ (x : Result ℕ E). ParsesUnsigned 64 10 text x) e h in
-    let p = parse_plain own {E = E} 64 text (Ok n) q plus in
-    (omega (arith, p.0.2, p.1), sym (decimal-digits_value own text p.0.0 p.0.1 lead p.0.2) ∙ ap decimal (sym p.1))
+    let p = parse_plain numeral_by_value {E = E} 64 text (Ok n) q plus in
+    (omega (arith, p.0.2, p.1), sym (decimal-digits_value numeral_by_value text p.0.0 p.0.1 lead p.0.2) ∙ ap decimal (sym p.1))
 
 lead_of : (n : ℕ) → n < 2 ^ 64 → (48 < get_or (decimal n) 0 0) ⊎ (decimal n ≡ 48 ∷ [])
 lead_of zero h = inr (decimal_digit 0 (omega arith))

@@ -3,6 +3,7 @@ use Rattle.std.proofs.Common.{◌≡◌, ℕ, suc, ◌+◌, ◌<◌, ◌≤◌, 
 use Rattle.std.specs.List.{enumerate_from, AllByRecursion}
 use Rattle.std.proofs.lemmas.List.{append-nil}
 use Rattle.std.proofs.lemmas.Bool.{and_from, eq-eqb, lt-ltb}
+use Rattle.global_defs.specs.declared.limits.TheConstants.{NUMBERS_END}
 use Rattle.global_defs.specs.Entry.{Update, Entry, Sequence}
 use Rattle.jnl_extract.specs.Extracts.{IsEntry}
 use Rattle.jnl_extract.specs.Lines.{Head, Line, Opens, Holds, Closes, Stage, stage_of, head_of, updates_of, made_entry, follows, same_head, begun, gone_on, next_stage}
@@ -104,12 +105,12 @@ first_line h [] a x l p e = absurd (omega arith)
 first_line h (u ∷ []) a x l p e = inl (u, heads_eq l (Holds h u) x a e)
 first_line h (u ∷ v ∷ us) a x l p e = inr (heads_eq l (Opens h) x ((map (Holds h) (u ∷ v ∷ us) ++ Closes h ∷ []) ++ a) e)
 
-refused_between : (next : ℕ) (entries : List (ℕ × Entry)) (l : Line) (more : Sequence) (x : List Line) → AllByRecursion IsEntry more → next + length more ≤ 2 ^ 40
+refused_between : (next : ℕ) (entries : List (ℕ × Entry)) (l : Line) (more : Sequence) (x : List Line) → AllByRecursion IsEntry more → next + length more ≤ NUMBERS_END
     → l ∷ x ≡ all_lines (enumerate_from next more) → begun next entries l ≡ None → ⊥
 refused_between next entries l [] x p q e n = cc
 refused_between next entries l (d ∷ ds) x p q e n =
     let h : Head = head_of (next, d) in
-    let f : follows next h ≡ true = and_from (next == next) (nat_lt next (2 ^ 40)) (eq-eqb next next refl) (lt-ltb next (2 ^ 40) (omega (arith, q))) in
+    let f : follows next h ≡ true = and_from (next == next) (nat_lt next NUMBERS_END) (eq-eqb next next refl) (lt-ltb next NUMBERS_END (omega (arith, q))) in
     elim (first_line h d.transaction.updates (all_lines (enumerate_from (next + 1) ds)) x l p.0.transaction.some e) [
       | inl u ↦ no_none (follows next h) (stage_of (next + 1) (entries ++ made_entry h (u.0 ∷ []) ∷ []) None) f (ap (begun next entries) (sym u.1) ∙ n)
       | inr o ↦ no_none (follows next h) (stage_of next entries (Some (made_entry h []))) f (ap (begun next entries) (sym o) ∙ n)
@@ -165,7 +166,7 @@ refused_within next entries p l (d ∷ ds) x i e n =
           no_none (same_head p h && nat_lt 1 (length us)) (stage_of (next + 1) (entries ++ p ∷ []) None) f (ap (gone_on next entries p) (sym r.0) ∙ n))
     ]
 
-refused_at : (next : ℕ) (entries : List (ℕ × Entry)) (pending : Option (ℕ × Entry)) (l : Line) (more : Sequence) (x : List Line) → AllByRecursion IsEntry more → next + length more ≤ 2 ^ 40
+refused_at : (next : ℕ) (entries : List (ℕ × Entry)) (pending : Option (ℕ × Entry)) (l : Line) (more : Sequence) (x : List Line) → AllByRecursion IsEntry more → next + length more ≤ NUMBERS_END
     → pending_lines pending ++ l ∷ x ≡ all_lines (enumerate_from next more) → next_stage (stage_of next entries pending) l ≡ None → ⊥
 refused_at next entries None l more x i r e n = refused_between next entries l more x i r e n
 refused_at next entries (Some p) l more x i r e n = refused_within next entries p l more x i e n
@@ -178,10 +179,10 @@ all_after P (x ∷ xs) ys h = all_after P xs ys h.1
 pub record Behind (next : ℕ) (x : List Line) : Type 0 where
   pub more : Sequence
   pub each : AllByRecursion IsEntry more
-  pub room : next + length more ≤ 2 ^ 40
+  pub room : next + length more ≤ NUMBERS_END
   pub lines_are : x ≡ all_lines (enumerate_from next more)
 
-pub behind : (from : ℕ) (s : Stage) (es : Sequence) (x : List Line) → IsStage from s → AllByRecursion IsEntry es → from + length es ≤ 2 ^ 40
+pub behind : (from : ℕ) (s : Stage) (es : Sequence) (x : List Line) → IsStage from s → AllByRecursion IsEntry es → from + length es ≤ NUMBERS_END
     → all_lines (enumerate_from from es) ≡ all_lines s.entries ++ x → Behind s.next x
 behind from s es x a i r e =
     let ds : Sequence = entries_of s.entries in
@@ -194,7 +195,7 @@ behind from s es x a i r e =
       lines_are = t.lines_are ∙ ap (λ (k : ℕ). all_lines (enumerate_from k t.more)) n;
     }
 
-pub refused : (from : ℕ) (s : Stage) (es : Sequence) (l : Line) (x : List Line) → IsStage from s → AllByRecursion IsEntry es → from + length es ≤ 2 ^ 40
+pub refused : (from : ℕ) (s : Stage) (es : Sequence) (l : Line) (x : List Line) → IsStage from s → AllByRecursion IsEntry es → from + length es ≤ NUMBERS_END
     → all_lines (enumerate_from from es) ≡ stage_lines s ++ l ∷ x → next_stage s l ≡ None → ⊥
 refused from s es l x a i r e n =
     let b = behind from s es (pending_lines s.pending ++ l ∷ x) a i r (e ∙ append_assoc (all_lines s.entries) (pending_lines s.pending) (l ∷ x)) in
@@ -217,7 +218,7 @@ some_open next None more o i e = o refl
 some_open next (Some p) more o i e = open_at next p more i e
 
 -- no extract ends within an entry
-pub unended : (from : ℕ) (s : Stage) (es : Sequence) → IsStage from s → AllByRecursion IsEntry es → from + length es ≤ 2 ^ 40 → (s.pending ≡ None → ⊥) → all_lines (enumerate_from from es) ≡ stage_lines s → ⊥
+pub unended : (from : ℕ) (s : Stage) (es : Sequence) → IsStage from s → AllByRecursion IsEntry es → from + length es ≤ NUMBERS_END → (s.pending ≡ None → ⊥) → all_lines (enumerate_from from es) ≡ stage_lines s → ⊥
 unended from s es a i r o e =
     let b = behind from s es (pending_lines s.pending) a i r e in
     some_open s.next s.pending b.more o b.each b.lines_are

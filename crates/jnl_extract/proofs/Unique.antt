@@ -4,6 +4,7 @@ use Rattle.std.specs.Prelude.{Result, Ok, Err}
 use Rattle.std.specs.List.{enumerate_from, AllByRecursion, list_any}
 use Rattle.std.proofs.lemmas.List.{append-nil}
 use Rattle.std.proofs.lemmas.Bool.{cases_order, cases_Bool, eqb-true}
+use Rattle.global_defs.specs.declared.limits.TheConstants.{NUMBERS_END}
 use Rattle.global_defs.specs.Entry.{Sequence}
 use Rattle.global_defs.specs.Extract.{extract, header, entries_text}
 use Rattle.jnl_extract.specs.Extracts.{IsEntry, IsExtract, IsExtractOf, extract_text, IsFront, IsBadLine, ended, is_feed}
@@ -33,7 +34,7 @@ all_after : (xs ys : Sequence) → AllByRecursion IsEntry (xs ++ ys) → AllByRe
 all_after [] ys h = h
 all_after (x ∷ xs) ys h = all_after xs ys h.1
 
-same_entries : (n : ℕ) (es fs : Sequence) → n + length es ≤ 2 ^ 40 → n + length fs ≤ 2 ^ 40 → AllByRecursion IsEntry es → AllByRecursion IsEntry fs
+same_entries : (n : ℕ) (es fs : Sequence) → n + length es ≤ NUMBERS_END → n + length fs ≤ NUMBERS_END → AllByRecursion IsEntry es → AllByRecursion IsEntry fs
     → text_of (all_lines (enumerate_from n es)) ≡ text_of (all_lines (enumerate_from n fs)) → es ≡ fs
 same_entries n es fs r s i j e =
     let a : List Line = all_lines (enumerate_from n es) in
@@ -47,12 +48,12 @@ same_entries n es fs r s i j e =
 -- a text is the extract of one sequence at most
 pub one_extract : (site name : List ℕ) (from n : ℕ) (es fs : Sequence) → IsExtract site from es → IsExtract name n fs → extract_text site from es ≡ extract_text name n fs → (site ≡ name) × (from ≡ n) × (es ≡ fs)
 one_extract site name from n es fs p q e =
-    let a : from ≤ 2 ^ 40 = omega (arith, p.last) in
-    let b : n ≤ 2 ^ 40 = omega (arith, q.last) in
+    let a : from ≤ NUMBERS_END = omega (arith, p.last) in
+    let b : n ≤ NUMBERS_END = omega (arith, q.last) in
     let h = one_line (header_body site from) (header_body name n) (text_of (all_lines (enumerate_from from es))) (text_of (all_lines (enumerate_from n fs)))
     (header_clean site from p.name a) (header_clean name n q.name b) (sym (extract_is site from es) ∙ e ∙ extract_is name n fs) in
     let k : from ≡ n = same_from site name from n p.name q.name a b h.0 in
-    let r : from + length fs ≤ 2 ^ 40 = omega (arith, k, q.last) in (
+    let r : from + length fs ≤ NUMBERS_END = omega (arith, k, q.last) in (
       same_site site name from n p.name q.name h.0,
       k,
       same_entries from es fs p.last r p.each q.each (h.1 ∙ ap (λ (m : ℕ). text_of (all_lines (enumerate_from m fs))) (sym k)),

@@ -1,6 +1,7 @@
 -- Extracts of their form, and the first line that no extract goes on with.
 use Rattle.std.specs.Prelude.{◌≡◌, ◌≤◌, ◌^◌, ◌+◌, ◌==◌, ℕ, Bool, false, List, [], ◌∷◌, ◌++◌, length}
 use Rattle.std.specs.List.{AllByRecursion, enumerate_from, flat_map, list_any}
+use Rattle.global_defs.specs.declared.limits.TheConstants.{NUMBERS_END}
 use Rattle.global_defs.specs.Entry.{Update, Entry, Sequence}
 use Rattle.global_defs.specs.Extract.{header, entries_text}
 use Rattle.global_defs.specs.Fields.{IsSiteName, IsStamp, IsTransaction}
@@ -21,7 +22,7 @@ pub record IsEntry (e : Entry) : Type 0 where
 pub record IsExtract (site : List ℕ) (from : ℕ) (entries : Sequence) : Type 0 where
   pub name : IsSiteName site
   pub first : 1 ≤ from
-  pub last : from + length entries ≤ 2 ^ 40
+  pub last : from + length entries ≤ NUMBERS_END
   pub each : AllByRecursion IsEntry entries
 
 abbrev pub extract_text : List ℕ → ℕ → Sequence → List ℕ

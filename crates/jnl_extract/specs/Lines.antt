@@ -3,6 +3,7 @@ use Rattle.std.specs.Prelude.{◌≡◌, ◌<◌, ◌≤◌, ◌^◌, ◌+◌, �
 use Rattle.std.specs.List.{list_all}
 use Rattle.std.specs.Char.{is_ascii_alphabetic, is_ascii_alphanumeric}
 use Rattle.std.specs.Str.{bytes_eq}
+use Rattle.global_defs.specs.declared.limits.TheConstants.{NUMBERS_END}
 use Rattle.global_defs.specs.Entry.{Update, Set, Kill, ZKill, Entry, Stamp, Origin}
 use Rattle.global_defs.specs.Fields.{IsSiteName, IsStamp, IsOrigin}
 use Rattle.global_defs.specs.NodeText.{node_text}
@@ -120,13 +121,13 @@ pub record Stage : Type 0 where
 -- an entry that is being read has a number that there is
 abbrev pub HasNumberAt : ℕ → Option (ℕ × Entry) → Type 0
 HasNumberAt next None = Unit {0}
-HasNumberAt next (Some p) = next < 2 ^ 40
+HasNumberAt next (Some p) = next < NUMBERS_END
 
 abbrev pub HasNumber : Stage → Type 0
 HasNumber s = HasNumberAt s.next s.pending
 
 abbrev pub follows : ℕ → Head → Bool
-follows next h = h.number == next && nat_lt next (2 ^ 40)
+follows next h = h.number == next && nat_lt next NUMBERS_END
 
 abbrev pub same_head : ℕ × Entry → Head → Bool
 same_head p h = p.0 == h.number && bytes_eq p.1.stamp.root h.stamp.root && p.1.stamp.cycle == h.stamp.cycle
@@ -169,5 +170,5 @@ pub record Takes (s : Stage) (left : List ℕ) (t : Stage) (rest : List ℕ) : T
 pub record Begins (text site : List ℕ) (from : ℕ) (rest : List ℕ) : Type 0 where
   pub name : IsSiteName site
   pub first : 1 ≤ from
-  pub last : from ≤ 2 ^ 40
+  pub last : from ≤ NUMBERS_END
   pub text_is : text ≡ (header_body site from ++ 10 ∷ []) ++ rest

@@ -4,6 +4,8 @@ ghost use Rattle.std.specs.List.{list_all, list_any};
 ghost use Rattle.std.specs.Char.{is_ascii_alphanumeric};
 ghost use Rattle.jnl_extract.specs.Lines.{is_site_name};
 
+use global_defs::limits::LONGEST_SITE_NAME;
+
 /// Where the first such byte is.
 fn place_of(text: &[u8], byte: u8) -> Option<usize>
     ensures place { result ≡ position (λ b. b == byte) text.now }
@@ -63,7 +65,7 @@ pub(crate) fn is_site_name(text: &[u8]) -> bool
     match text {
         [] => false,
         [first, rest @ ..] => {
-            first.is_ascii_alphabetic() && all_alphanumeric(rest) && rest.len() < 15
+            first.is_ascii_alphabetic() && all_alphanumeric(rest) && rest.len() < LONGEST_SITE_NAME
         }
     }
 }

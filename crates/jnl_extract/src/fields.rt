@@ -15,7 +15,7 @@ use gvn_model::{Entry, Origin, Stamp};
 use std::alloc::Global;
 
 /// How many updaters there may be.
-const MOST_UPDATERS: u64 = 64;
+const MOST_UPDATERS: u64 = global_defs::limits::MOST_UPDATERS as u64;
 
 /// The greatest cycle, and the greatest serial.
 const LAST_OF_FOUR_BYTES: u64 = 0xffff_ffff;
@@ -50,7 +50,7 @@ fn read_pair(text: &[u8]) -> Option<(u64, u64)>
 
 /// An updater and a serial that there are.
 fn origin_of(updater: u64, serial: u64) -> Option<Origin>
-    ensures { MatchOption result ((1 ≤ updater) → (updater ≤ 64) → (1 ≤ serial) → (serial < 2 ^ 32) → ⊥)
+    ensures { MatchOption result ((1 ≤ updater) → (updater ≤ MOST_UPDATERS) → (1 ≤ serial) → (serial < 2 ^ 32) → ⊥)
         (λ o. IsOrigin (origin_value o) × (o.updater ≡ updater) × (o.serial ≡ serial)) }
 {
     if updater == 0 || MOST_UPDATERS < updater || serial == 0 || LAST_OF_FOUR_BYTES < serial {

@@ -1,6 +1,7 @@
 //! Lines of an extract, read.
 ghost use Rattle.std.specs.List.{list_any};
 ghost use Rattle.std.specs.Prelude.{◌≡◌, ◌==◌, ◌≢◌, ◌++◌, ◌∷◌, ◌≤◌, ◌^◌, List, ℕ, decimal, codes, IfOk, MatchOption};
+ghost use Rattle.global_defs.specs.declared.limits.TheConstants.{NUMBERS_END};
 ghost use Rattle.global_defs.specs.Fields.{IsSiteName};
 ghost use Rattle.jnl_extract.specs.Lines as lines;
 ghost use Rattle.jnl_extract.specs.Lines.{line_body, header_body, line_word, line_head, update_word, update_tail, IsLine, IsBracket, IsHeld, PartsAre};
@@ -16,7 +17,7 @@ use gvn_key::{Bytes, NoMemory};
 use std::alloc::Global;
 
 /// The greatest number that an extract may begin with.
-const LAST_FROM: u64 = 1 << 40;
+const LAST_FROM: u64 = global_defs::limits::NUMBERS_END;
 
 /// A line behind the header.
 #[derive(Debug, Drop)]
@@ -32,8 +33,8 @@ pub(crate) enum Line {
 /// The header's name and number, by its line without the line feed.
 pub(crate) fn read_header(alloc: Global, line: &[u8]) -> Result<Option<(Bytes, u64)>, NoMemory>
     ensures { IfOk result (λ found. MatchOption found
-        ((site : List ℕ) (from : ℕ) → IsSiteName site → 1 ≤ from → from ≤ 2 ^ 40 → line.now ≡ header_body site from → ⊥)
-        (λ p. IsSiteName p.0 × (1 ≤ p.1) × (p.1 ≤ 2 ^ 40) × (line.now ≡ header_body p.0 p.1))) }
+        ((site : List ℕ) (from : ℕ) → IsSiteName site → 1 ≤ from → from ≤ NUMBERS_END → line.now ≡ header_body site from → ⊥)
+        (λ p. IsSiteName p.0 × (1 ≤ p.1) × (p.1 ≤ NUMBERS_END) × (line.now ≡ header_body p.0 p.1))) }
 {
     match cut(line, b'\\') {
         None => Ok(None),
@@ -50,8 +51,8 @@ pub(crate) fn read_header(alloc: Global, line: &[u8]) -> Result<Option<(Bytes, u
 /// A site's name, a backslash and a number.
 fn read_beginning(alloc: Global, text: &[u8]) -> Result<Option<(Bytes, u64)>, NoMemory>
     ensures { IfOk result (λ found. MatchOption found
-        ((site : List ℕ) (from : ℕ) → IsSiteName site → 1 ≤ from → from ≤ 2 ^ 40 → text.now ≡ site ++ 92 ∷ decimal from → ⊥)
-        (λ p. IsSiteName p.0 × (1 ≤ p.1) × (p.1 ≤ 2 ^ 40) × (text.now ≡ p.0 ++ 92 ∷ decimal p.1))) }
+        ((site : List ℕ) (from : ℕ) → IsSiteName site → 1 ≤ from → from ≤ NUMBERS_END → text.now ≡ site ++ 92 ∷ decimal from → ⊥)
+        (λ p. IsSiteName p.0 × (1 ≤ p.1) × (p.1 ≤ NUMBERS_END) × (text.now ≡ p.0 ++ 92 ∷ decimal p.1))) }
 {
     match cut(text, b'\\') {
         None => Ok(None),

@@ -8,16 +8,14 @@ ghost use Rattle.jnl_extract.specs.Values.{head_value, line_value, stage_value};
 
 use super::fields::{Head, same_head};
 use super::lines::Line;
+use global_defs::limits::NUMBERS_END;
 use gvn_key::NoMemory;
 use gvn_key::terms::Update;
 use gvn_model::{Entries, Entry, Transaction, Updates};
 use std::alloc::Global;
 
-/// Entries have numbers below this one.
-const END_OF_NUMBERS: u64 = 1 << 40;
-
 /// How many updates an entry may have.
-const MOST_UPDATES: usize = 256;
+const MOST_UPDATES: usize = global_defs::limits::MOST_UPDATES as usize;
 
 /// The entries that were read, and the one whose last line is still to come.
 #[derive(Debug, Drop)]
@@ -34,7 +32,7 @@ pub(crate) struct Stage {
 fn follows(next: u64, head: &Head) -> bool
     ensures { result ≡ follows next (head_value head.now) }
 {
-    head.number == next && next < END_OF_NUMBERS
+    head.number == next && next < NUMBERS_END
 }
 
 /// The entry of these fields and updates.
@@ -96,7 +94,7 @@ fn gone_on(
     mut entry: Entry,
     line: Line,
 ) -> Result<Option<Stage>, NoMemory>
-    requires { next < 2 ^ 40 }
+    requires { next < NUMBERS_END }
     ensures { IfOk result (λ stage. option_map stage_value stage ≡ gone_on next entries (numbered entry) (line_value line)) }
 {
     match line {

@@ -1,6 +1,7 @@
 //! A region's journals over its generations.
 ghost use Rattle.std.specs.Prelude.{◌≡◌, ◌⊎◌, ◌≤◌, ◌<◌, ◌↔◌, [], ℕ, List, map, Some, IfOk, IfSome, OnOk, IsErrOf, IsTrue};
 ghost use Rattle.std.specs.List.{AllByRecursion};
+ghost use Rattle.global_defs.specs.declared.limits.TheConstants.{MOST_GENERATIONS, MOST_REGIONS};
 ghost use Rattle.disk_defs.specs.Disk.{Image, IsDurable, AtEachMoment, Reads, MayFailUncounted};
 ghost use Rattle.disk_defs.specs.Frames.{Only, OthersStay};
 ghost use Rattle.disk_defs.specs.Gates.{records};
@@ -117,8 +118,8 @@ fn read_generation<D: Disk>(
     previous: u32,
     into: &mut Vec<PlacedRecord>,
 ) -> Result<u32, JournalError>
-    requires region { region < 8 }
-    requires generation { generation ≤ 65535 }
+    requires region { region < MOST_REGIONS }
+    requires generation { generation ≤ MOST_GENERATIONS }
     ensures read { IfOk result (λ began. IfSome (D.disk disk.old).content (λ files. HasNewer region generation previous (files (journal_file generation region)) (map placed_value into.old.items) (map placed_value into.new.items) began)) }
     ensures form { OnOk result (AllByRecursion (λ p. IsReadRecord p.what) into.old.items → AllByRecursion (λ p. IsReadRecord p.what) into.new.items) }
     ensures began { IfOk result (λ began. (began ≡ previous) ⊎ (began ≡ generation)) }
@@ -159,8 +160,8 @@ pub fn read_generations<D: Disk>(
     region: u8,
     last: u32,
 ) -> Result<Generations, GenerationsError>
-    requires region { region < 8 }
-    requires last { last ≤ 65535 }
+    requires region { region < MOST_REGIONS }
+    requires last { last ≤ MOST_GENERATIONS }
     ensures read { IfOk result (λ made. IfSome (D.disk disk.old).content (λ files. IsJournal files region last made.last_began (map placed_value made.records.items))) }
     ensures form { IfOk result (λ made. AllByRecursion (λ p. IsReadRecord p.what) made.records.items) }
     ensures began { IfOk result (λ made. made.last_began ≤ last) }
@@ -199,8 +200,8 @@ pub fn is_unbegun<D: Disk>(
     region: u8,
     generation: u32,
 ) -> Result<bool, GenerationsError>
-    requires region { region < 8 }
-    requires generation { generation ≤ 65535 }
+    requires region { region < MOST_REGIONS }
+    requires generation { generation ≤ MOST_GENERATIONS }
     ensures value { IfOk result (λ unbegun. IfSome (D.disk disk.old).content (λ files. IsTrue unbegun ↔ (records (files (journal_file generation region)) ≡ Some []))) }
     ensures durable { OnOk result (IfSome (D.disk disk.old).content (λ files. IsDurable (D.disk disk.new) (journal_file generation region) (files (journal_file generation region)))) }
     ensures inside { (file offset : ℕ) → IsErrOf result (GenerationsError.NotAFile file offset) → ⊥ }

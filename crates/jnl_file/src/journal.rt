@@ -1,5 +1,6 @@
 //! A journal that is open for calls.
 ghost use Rattle.std.specs.Prelude.{◌≡◌, ◌↔◌, ◌≤◌, ◌<◌, ◌+◌, ◌++◌, ◌∷◌, [], ℕ, List, length, Some, IfSome, IfOk, OnOk, OnErr, IsErrOf, IsTrue};
+ghost use Rattle.global_defs.specs.declared.limits.TheConstants.{LONGEST_BODY, MOST_GENERATIONS, MOST_REGIONS};
 ghost use Rattle.disk_defs.specs.Disk.{Image, AtEachMoment, Reads, MayFailUncounted, HasCause};
 ghost use Rattle.disk_defs.specs.Frames.{Only, OnlyOn, OthersStay};
 ghost use Rattle.disk_defs.specs.Gates.{records};
@@ -13,17 +14,18 @@ use crate::reading::{read_record, read_whole};
 use gated_file::Gated;
 use gvn_key::{Bytes, NoMemory};
 use jnl_record::{JnlRecord, encode};
+use journal_defs::files::JOURNAL_FILES;
 use repl_disk::Disk;
 use std::alloc::Global;
 use std::mem::replace;
 
 /// The number of the file that holds a region's journal of a generation.
 pub fn journal_file(region: u8, generation: u32) -> u32
-    requires region { region < 8 }
-    requires generation { generation ≤ 65535 }
+    requires region { region < MOST_REGIONS }
+    requires generation { generation ≤ MOST_GENERATIONS }
     ensures { result ≡ journal_file generation region }
 {
-    16 + 8 * generation + u32::from(region)
+    JOURNAL_FILES + 8 * generation + u32::from(region)
 }
 
 /// A region's journal of one generation, open for calls.
@@ -58,8 +60,8 @@ impl Journal {
         region: u8,
         generation: u32,
     ) -> Result<Journal, JournalError>
-        requires region { region < 8 }
-        requires generation { generation ≤ 65535 }
+        requires region { region < MOST_REGIONS }
+        requires generation { generation ≤ MOST_GENERATIONS }
         requires empty { IfSome (D.disk disk.old).content (λ files. records (files (journal_file generation region)) ≡ Some []) }
         ensures ready { IfOk result (λ made. IsReady (D.disk disk.new) made) }
         ensures place { IfOk result (λ made. IsJournalOf made region generation) }
@@ -87,8 +89,8 @@ impl Journal {
         previous: u32,
     ) -> Result<(), NoMemory>
         requires ready { IsReady (D.disk disk.old) self.old }
-        requires region { self.old.region < 8 }
-        requires generation { self.old.generation ≤ 65535 }
+        requires region { self.old.region < MOST_REGIONS }
+        requires generation { self.old.generation ≤ MOST_GENERATIONS }
         requires previous { previous < self.old.generation }
         ensures ready { IsReady (D.disk disk.new) self.new }
         ensures prepared { OnOk result (IsPrepared self.new (pini self.old.region before self.old.generation previous)) }
@@ -121,8 +123,8 @@ impl Journal {
         generation: u32,
         previous: u32,
     ) -> Result<Journal, JournalError>
-        requires region { region < 8 }
-        requires generation { generation ≤ 65535 }
+        requires region { region < MOST_REGIONS }
+        requires generation { generation ≤ MOST_GENERATIONS }
         requires previous { previous < generation }
         requires empty { IfSome (D.disk disk.old).content (λ files. records (files (journal_file generation region)) ≡ Some []) }
         ensures ready { IfOk result (λ made. IsReady (D.disk disk.new) made) }
@@ -153,8 +155,8 @@ impl Journal {
         region: u8,
         generation: u32,
     ) -> Result<Journal, JournalError>
-        requires region { region < 8 }
-        requires generation { generation ≤ 65535 }
+        requires region { region < MOST_REGIONS }
+        requires generation { generation ≤ MOST_GENERATIONS }
         ensures ready { IfOk result (λ made. IsReady (D.disk disk.new) made) }
         ensures place { IfOk result (λ made. IsJournalOf made region generation) }
         ensures state { IfOk result (λ made. IfSome (D.disk disk.old).content (λ files. (rs : List JournalRecord) × IsJournalFile region generation (files (journal_file generation region)) rs × HasRecords (D.disk disk.new) made (settled rs))) }
@@ -181,7 +183,7 @@ impl Journal {
         requires ready { IsReady (D.disk disk.old) self.old }
         requires form { IsInForm (record_value what.now) }
         requires version { IsFirstVersion what.now }
-        requires short { length (spelled_record (record_value what.now)) ≤ 1048576 }
+        requires short { length (spelled_record (record_value what.now)) ≤ LONGEST_BODY }
         ensures ready { IsReady (D.disk disk.new) self.new }
         ensures prepared { OnOk result (IsPrepared self.new (record_value what.now)) }
         ensures syncs { OnOk result (self.new.gated.syncs_left ≡ self.old.gated.syncs_left + 2) }

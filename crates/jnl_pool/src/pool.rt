@@ -1,5 +1,6 @@
 //! The pool that all threads share.
 ghost use Rattle.std.specs.Prelude.{◌≡◌, ◌^◌, ◌≤◌, All, IfOk};
+ghost use Rattle.global_defs.specs.declared.limits.TheConstants.{NUMBERS_END};
 ghost use Rattle.wire_defs.specs.PoolWords.{StartsWith};
 ghost use Rattle.jnl_pool.specs.Pooling.{claimed, hard_count, new_writer, new_reader, IsHardenedEntry, IsNoteOf};
 
@@ -29,7 +30,7 @@ impl Pool {
     /// which the writer keeps the places of the entries that are whole.
     pub fn make(alloc: Global, words: u32, first: u64) -> Result<(Pool, Writer), NoMemory>
         requires words { (16 ≤ words) × (words ≤ 1048576) }
-        requires first { (1 ≤ first) × (first ≤ 2 ^ 40) }
+        requires first { (1 ≤ first) × (first ≤ NUMBERS_END) }
         ensures pool { IfOk result (λ r. (r.0.size ≡ words) × (r.0.first ≡ first)) }
         ensures writer { IfOk result (λ r. r.1 ≡ new_writer r.0) }
     {

@@ -1,5 +1,6 @@
 //! The writer, of which a pool has one.
 ghost use Rattle.std.specs.Prelude.{◌≡◌, ℕ, ◌+◌, ◌-◌, ◌*◌, ◌/◌, ◌^◌, ◌<◌, ◌≤◌, ◌↔◌, [], ◌∷◌, ◌++◌, length, slice_index, vec_len, vec_capacity, replicate, All, IfSome, IfNone, IsTrue, true, false, max};
+ghost use Rattle.global_defs.specs.declared.limits.TheConstants.{NUMBERS_END};
 ghost use Rattle.wire_defs.specs.PoolWords.{words_from, word_of, packed, StartsWith};
 ghost use Rattle.pool_rule.specs.Rule.{Each, IsEntryBelow, writer};
 ghost use Rattle.jnl_pool.specs.Pooling.{claimed, hard_count, new_reader, next_number, place_at, CanAnchor, anchored, IsHardenedEntry, IsNoteOf};
@@ -97,7 +98,7 @@ impl Writer {
     /// Puts an entry with the next number: claims its words, and then stores them.
     pub fn put(&mut self, pool: &Pool, bytes: &[u8])
         requires pool { self.old.table ≡ pool.now.table }
-        requires number { next_number self.old < 2 ^ 40 }
+        requires number { next_number self.old < NUMBERS_END }
         requires bytes { length bytes.now ≤ 1048576 }
         ensures { self.new ≡ record self.old { entries = self.old.entries ++ bytes.now ∷ [] } }
     {

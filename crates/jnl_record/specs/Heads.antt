@@ -2,6 +2,7 @@
 use Rattle.std.specs.Prelude.{◌≡◌, ℕ, ◌^◌, ◌<◌, ◌≤◌, ◌∷◌, ◌++◌, List, length}
 use Rattle.std.specs.Int.{to_be_bytes, w16, w32, w64}
 use Rattle.std.specs.List.{AllByRecursion}
+use Rattle.global_defs.specs.declared.limits.TheConstants.{MOST_UPDATES}
 use Rattle.global_defs.specs.Fields.{IsNumber, IsOrigin}
 use Rattle.journal_defs.specs.Journal.{Item, Rise, IsItem}
 use Rattle.gvn_model.specs.Entries.{origin_value}
@@ -11,7 +12,7 @@ pub record IsHead (h : Head) : Type 0 where
   pub number : IsNumber h.number
   pub mask : h.mask < 2 ^ 8
   pub origin : IsOrigin (origin_value h.origin)
-  pub count : (1 ≤ h.count) × (h.count ≤ 256)
+  pub count : (1 ≤ h.count) × (h.count ≤ MOST_UPDATES)
   pub items : h.items < 2 ^ 16
 
 abbrev pub spelled_head : Head → List ℕ

@@ -4,8 +4,7 @@ ghost use Rattle.std.specs.Option.{option_map};
 ghost use Rattle.global_defs.specs.Fields.{flag};
 ghost use Rattle.repl_fields.specs.Reading.{ReadsField};
 
-/// How many bytes a block has.
-const BLOCK: usize = 4096;
+use global_defs::limits::BLOCK;
 
 /// A byte that is 1 for true and 0 for false, and what follows it.
 pub fn read_flag(bytes: &[u8]) -> Option<(bool, &[u8])>

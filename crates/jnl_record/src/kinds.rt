@@ -7,18 +7,13 @@ ghost use Rattle.jnl_record.specs.Values.{record_value, IsFirstVersion};
 
 use super::fields::{read_flag, read_image};
 use super::record::JnlRecord;
+use global_defs::limits::{MOST_GENERATIONS, MOST_REGIONS, NUMBERS_END};
 use gvn_key::{Bytes, NoMemory};
 use repl_fields::{read_u8, read_u32, read_u64};
 use std::alloc::Global;
 
-/// The only version of the layout.
-const VERSION: u8 = 1;
-
-/// How many regions there can be.
-const MOST_REGIONS: u8 = 8;
-
-/// The greatest generation.
-const LAST_GENERATION: u32 = 65535;
+/// The only version of the layout of a journal (docs/FORMATS.md, journal records).
+pub const VERSION: u8 = 1;
 
 /// A PINI by its fields, and what follows them.
 pub fn read_start(bytes: &[u8]) -> Option<(JnlRecord, &[u8])>
@@ -32,7 +27,7 @@ pub fn read_start(bytes: &[u8]) -> Option<(JnlRecord, &[u8])>
     let (previous, rest) = read_u32(rest)?;
     if version != VERSION
         || MOST_REGIONS <= region
-        || LAST_GENERATION < generation
+        || MOST_GENERATIONS < generation
         || generation <= previous
     {
         return None;
@@ -55,7 +50,7 @@ pub fn read_mark(bytes: &[u8]) -> Option<(JnlRecord, &[u8])>
     let (closing, rest) = read_flag(bytes)?;
     let (number, rest) = read_u64(rest)?;
     let (blocks, rest) = read_u32(rest)?;
-    if number >= 1 << 40 {
+    if number >= NUMBERS_END {
         return None;
     }
     let record = JnlRecord::Epoch {

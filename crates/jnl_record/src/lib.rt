@@ -9,6 +9,7 @@ mod reading;
 mod record;
 mod writing;
 
+pub use kinds::VERSION;
 pub use placed::PlacedRecord;
 pub use reading::decode;
 pub use record::{JnlRecord, RecordError};

@@ -9,6 +9,7 @@ ghost use Rattle.jnl_record.specs.Values.{record_value, IsFirstVersion};
 ghost use Rattle.jnl_record.specs.Heads.{IsHead, spelled_head, AreItems};
 
 use super::record::JnlRecord;
+use global_defs::limits::{MOST_UPDATERS, MOST_UPDATES, NUMBERS_END};
 use gvn_key::NoMemory;
 use gvn_model::{Item, Items, Origin};
 use repl_fields::{read_u8, read_u16, read_u32, read_u64, read_update};
@@ -26,19 +27,13 @@ pub struct Head {
     pub items: u16,
 }
 
-/// Who makes jobs: updaters are numbered from 1 to this.
-const LAST_UPDATER: u8 = 64;
-
-/// How many updates a transaction may have.
-const MOST_UPDATES: u16 = 256;
-
 impl Head {
     /// Whether each field is in its range.
     fn is_valid(self) -> bool
         ensures { IsTrue result ↔ IsHead self }
     {
-        (1..1 << 40).contains(&self.number)
-            && (1..=LAST_UPDATER).contains(&self.origin.updater)
+        (1..NUMBERS_END).contains(&self.number)
+            && (1..=MOST_UPDATERS).contains(&self.origin.updater)
             && self.origin.serial >= 1
             && (1..=MOST_UPDATES).contains(&self.count)
     }

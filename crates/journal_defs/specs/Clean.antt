@@ -1,15 +1,12 @@
 -- Files past the newest generation: there is nothing in them yet. This project's rule, so that a generation that is drawn is new.
 use Rattle.std.specs.Prelude.{◌≡◌, ℕ, ◌+◌, ◌<◌, ◌≤◌, [], length, Some}
+use Rattle.global_defs.specs.declared.limits.TheConstants.{MOST_GENERATIONS}
 use Rattle.disk_defs.specs.Disk.{Files}
 use Rattle.disk_defs.specs.Gates.{records}
 use Rattle.journal_defs.specs.Numbers.{journal_file, lost_file, broken_file}
 use Rattle.journal_defs.specs.Instance.{regions, generation, site_name}
 use Rattle.journal_defs.specs.Sequence.{Records}
 use Rattle.journal_defs.specs.Broken.{broken, broken_text}
-
--- the greatest generation that there can be
-abbrev pub MOST_GENERATIONS : ℕ
-MOST_GENERATIONS = 65535
 
 -- a generation past that of every CUT, so that it isn't drawn yet
 abbrev pub IsUndrawn : Records → ℕ → Type 0

@@ -3,6 +3,7 @@
 use Rattle.std.specs.Prelude.{ℕ, ◌*◌, ◌==◌, ◌&&◌, Bool, false, not, nat_lt, nat_le, List, [], ◌∷◌, take, drop, replicate, Option, Some, None, if◌then◌else◌, IsSome}
 use Rattle.std.specs.List.{find, list_any}
 use Rattle.std.specs.Option.{option_or, option_map, unwrap_or}
+use Rattle.global_defs.specs.declared.limits.TheConstants.{BLOCK}
 use Rattle.journal_defs.specs.Journal.{JournalRecord, Pini, Epoch, Pblk, Tcom}
 use Rattle.journal_defs.specs.Instance.{InstanceRecord}
 use Rattle.journal_defs.specs.Surviving.{survives}
@@ -49,10 +50,6 @@ image_in (Tcom p) b = None
 abbrev pub image_of : List Placed → ℕ → Option (List ℕ)
 image_of [] b = None
 image_of (p ∷ ps) b = option_or (image_in p.what b) (image_of ps b)
-
--- how many bytes a block has
-abbrev pub BLOCK : ℕ
-BLOCK = 4096
 
 -- block b of a database file
 abbrev pub block_of : List ℕ → ℕ → List ℕ

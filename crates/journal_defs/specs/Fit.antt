@@ -1,11 +1,12 @@
 -- What holds of each image of fit disks.
-use Rattle.std.specs.Prelude.{◌≡◌, ℕ, ◌<◌, ◌≤◌, nat_le, List, length, take, filter, slice_get, true, Some}
+use Rattle.std.specs.Prelude.{◌≡◌, ℕ, ◌<◌, ◌≤◌, List, length, take, true}
 use Rattle.std.specs.List.{AllByRecursion, fold, flat_map}
 use Rattle.std.specs.FinMap as globals
+use Rattle.global_defs.specs.declared.limits.TheConstants.{MOST_NODES, MOST_REIGNS}
 use Rattle.disk_defs.specs.Disk.{Files}
 use Rattle.global_defs.specs.Key.{Key}
-use Rattle.global_defs.specs.Entry.{Update, Set, Kill, ZKill, Entry, Sequence, apply}
-use Rattle.global_defs.specs.Evaluation.{MOST_NODES}
+use Rattle.global_defs.specs.Entry.{Update, Set, Kill, ZKill, Sequence, apply}
+use Rattle.global_defs.specs.Rising.{SerialsRise, begun_by}
 use Rattle.journal_defs.specs.Numbers.{database_file}
 use Rattle.journal_defs.specs.Directory.{Pattern, region_of, patterns}
 use Rattle.journal_defs.specs.Journal.{JournalRecord, Pini, Epoch, Pblk, Tcom}
@@ -37,18 +38,9 @@ IsAtHome instance r g (Pblk b) = Unit {0}
 abbrev pub HasFewNodes : Sequence → Type 0
 HasFewNodes seq = (k : ℕ) → globals.len (fold apply globals.empty (take k (flat_map (λ e. e.transaction.updates) seq))) ≤ MOST_NODES
 
--- among the entries of one stamp each updater's serials rise
-abbrev pub SerialsRise : Sequence → Type 0
-SerialsRise seq = (i j : ℕ) (d e : Entry) → i < j → slice_get seq i ≡ Some d → slice_get seq j ≡ Some e → d.stamp ≡ e.stamp
-    → d.transaction.origin.updater ≡ e.transaction.origin.updater → d.transaction.origin.serial < e.transaction.origin.serial
-
--- how many reigns a sequence may have
-abbrev pub MOST_REIGNS : ℕ
-MOST_REIGNS = 32768
-
 -- few surviving reigns have begun by the length
 abbrev pub HasFewReigns : ℕ → List InstanceRecord → Type 0
-HasFewReigns length_of instance = length (filter (λ r. nat_le r.start length_of) (reigns instance)) ≤ MOST_REIGNS
+HasFewReigns length_of instance = length (begun_by length_of (reigns instance)) ≤ MOST_REIGNS
 
 -- The files are an image that stands for this sequence, by these records, is clean, and is sound for every t up to its length.
 -- This holds at each moment of each call.

@@ -3,18 +3,15 @@ use Rattle.std.specs.Prelude.{◌≡◌, ℕ, ◌^◌, ◌<◌, ◌≤◌, ◌==
 use Rattle.std.specs.Int.{to_be_bytes, w32, w64}
 use Rattle.std.specs.List.{AllByRecursion, flat_map}
 use Rattle.std.specs.Option.{option_or, option_map}
+use Rattle.global_defs.specs.declared.limits.TheConstants.{LONGEST_NAME, MOST_GENERATIONS, MOST_REGIONS, NUMBERS_END}
 use Rattle.global_defs.specs.Entry.{Reign}
 use Rattle.global_defs.specs.Valid.{is_name}
 use Rattle.global_defs.specs.Pattern.{ends_in_star, stem}
 use Rattle.global_defs.specs.Fields.{flag, short, IsSiteName, IsReign}
-
--- a region's name, and whether its blocks are kept as they were before they change
-pub record NamedMode : Type 0 where
-  pub name : List ℕ
-  pub before : Bool
+use Rattle.global_defs.specs.Region.{Region}
 
 pub data InstanceRecord : Type 0 where
-  Create : (name : List ℕ) → (regions : List NamedMode) → InstanceRecord
+  Create : (name : List ℕ) → (regions : List Region) → InstanceRecord
   Reigned : Reign → InstanceRecord
   -- entries past this length count no more where they stand in an earlier generation than this one
   Cut : (length generation : ℕ) → InstanceRecord
@@ -25,7 +22,7 @@ pub data InstanceRecord : Type 0 where
 abbrev pub pattern_record : ℕ → List ℕ → InstanceRecord
 pattern_record region text = Map region (ends_in_star text) (stem text)
 
-abbrev pub spelled_region : NamedMode → List ℕ
+abbrev pub spelled_region : Region → List ℕ
 spelled_region r = short r.name ++ flag r.before ∷ []
 
 -- 01 CREATE with version 1, 02 REIGN, 03 CUT, 04 MAP, 05 MODE
@@ -37,11 +34,11 @@ spelled_record (Map region star name) = 4 ∷ region ∷ flag star ∷ short nam
 spelled_record (Mode region before) = 5 ∷ region ∷ flag before ∷ []
 
 abbrev pub IsInForm : InstanceRecord → Type 0
-IsInForm (Create name regions) = IsSiteName name × (1 ≤ length regions) × (length regions ≤ 8) × AllByRecursion (λ r. IsSiteName r.name) regions
+IsInForm (Create name regions) = IsSiteName name × (1 ≤ length regions) × (length regions ≤ MOST_REGIONS) × AllByRecursion (λ r. IsSiteName r.name) regions
 IsInForm (Reigned r) = IsReign r
-IsInForm (Cut n g) = (n < 2 ^ 40) × (1 ≤ g) × (g ≤ 65535)
-IsInForm (Map region star name) = (region < 8) × IsTrue (is_name name) × (length name ≤ 31)
-IsInForm (Mode region before) = region < 8
+IsInForm (Cut n g) = (n < NUMBERS_END) × (1 ≤ g) × (g ≤ MOST_GENERATIONS)
+IsInForm (Map region star name) = (region < MOST_REGIONS) × IsTrue (is_name name) × (length name ≤ LONGEST_NAME)
+IsInForm (Mode region before) = region < MOST_REGIONS
 
 -- these bytes are the body of this record
 pub record IsInstanceBody (body : List ℕ) (r : InstanceRecord) : Type 0 where
@@ -90,7 +87,7 @@ site_name (Map region star name ∷ more) = []
 site_name (Mode region before ∷ more) = []
 
 -- the site's regions, of CREATE
-abbrev pub regions : List InstanceRecord → List NamedMode
+abbrev pub regions : List InstanceRecord → List Region
 regions [] = []
 regions (Create name rs ∷ more) = rs
 regions (Reigned r ∷ more) = []

@@ -2,6 +2,7 @@
 use Rattle.std.specs.Prelude.{◌≡◌, ℕ, ◌+◌, ◌^◌, ◌<◌, ◌≤◌, Bool, List, [], ◌∷◌, ◌++◌, length}
 use Rattle.std.specs.Int.{to_be_bytes, w16, w32, w64}
 use Rattle.std.specs.List.{AllByRecursion, flat_map}
+use Rattle.global_defs.specs.declared.limits.TheConstants.{MOST_GENERATIONS, MOST_REGIONS, MOST_UPDATES, NUMBERS_END}
 use Rattle.global_defs.specs.Entry.{Origin}
 pub use Rattle.global_defs.specs.Entry.{Item}
 use Rattle.global_defs.specs.Fields.{flag, spelled_update, IsUpdate, IsNumber, IsOrigin}
@@ -67,19 +68,19 @@ pub record IsPart (p : Part) : Type 0 where
   pub number : IsNumber p.number
   pub mask : p.mask < 2 ^ 8
   pub origin : IsOrigin p.origin
-  pub count : (1 ≤ p.count) × (p.count ≤ 256)
+  pub count : (1 ≤ p.count) × (p.count ≤ MOST_UPDATES)
   pub rise : Rise 0 p.items
   pub items : AllByRecursion (IsItem p.count) p.items
 
 -- generations are from 1 to 65,535
 pub record IsStart (s : Start) : Type 0 where
-  pub region : s.region < 8
-  pub generation : (1 ≤ s.generation) × (s.generation ≤ 65535)
+  pub region : s.region < MOST_REGIONS
+  pub generation : (1 ≤ s.generation) × (s.generation ≤ MOST_GENERATIONS)
   pub previous : s.previous < s.generation
 
 abbrev pub IsInForm : JournalRecord → Type 0
 IsInForm (Pini s) = IsStart s
-IsInForm (Epoch m) = (m.number < 2 ^ 40) × (m.blocks < 2 ^ 32)
+IsInForm (Epoch m) = (m.number < NUMBERS_END) × (m.blocks < 2 ^ 32)
 IsInForm (Pblk b) = (b.block < 2 ^ 32) × (length b.bytes ≡ 4096)
 IsInForm (Tcom p) = IsPart p
 

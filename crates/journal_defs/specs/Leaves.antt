@@ -6,6 +6,7 @@ use Rattle.std.specs.Cmp.Lexicographic.{slice_cmp}
 use Rattle.std.specs.Int.{to_be_bytes, w16, w32}
 use Rattle.std.specs.List.{AllByRecursion, flat_map}
 use Rattle.std.specs.FinMap as globals
+use Rattle.global_defs.specs.declared.limits.TheConstants.{LONGEST_VALUE}
 use Rattle.global_defs.specs.Key.{Key}
 use Rattle.global_defs.specs.Valid.{is_key}
 use Rattle.global_defs.specs.Encoded.{encoded}
@@ -41,7 +42,7 @@ abbrev pub IsEncoded : List ℕ → Type 0
 IsEncoded bytes = (key : Key) × IsTrue (is_key key) × (bytes ≡ encoded key)
 
 abbrev pub IsCell : Cell → Type 0
-IsCell c = IsEncoded c.0 × (length c.1 ≤ 1500)
+IsCell c = IsEncoded c.0 × (length c.1 ≤ LONGEST_VALUE)
 
 -- keys rise byte by byte
 abbrev pub KeysRise : List Cell → Type 0

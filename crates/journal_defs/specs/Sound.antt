@@ -2,11 +2,12 @@
 -- rests on).
 use Rattle.std.specs.Prelude.{◌≡◌, ◌⊎◌, ℕ, ◌<◌, ◌≤◌, ◌==◌, List, length, take, Option, Some}
 use Rattle.std.specs.FinMap as globals
+use Rattle.global_defs.specs.declared.limits.TheConstants.{BLOCK}
 use Rattle.global_defs.specs.Entry.{Globals, Sequence, state}
 use Rattle.journal_defs.specs.Directory.{Pattern, region_of, patterns}
 use Rattle.journal_defs.specs.Instance.{InstanceRecord, regions}
 use Rattle.journal_defs.specs.Sequence.{Placed, Records}
-use Rattle.journal_defs.specs.Epochs.{Blocks, BLOCK, chosen, image_state, NeedsForward}
+use Rattle.journal_defs.specs.Epochs.{Blocks, chosen, image_state, NeedsForward}
 use Rattle.journal_defs.specs.Leaves.{Decodes}
 
 -- the region's part of the state of a sequence

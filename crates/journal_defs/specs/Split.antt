@@ -1,6 +1,7 @@
 -- A transaction as parts, one a region (GT.M: a transaction over several regions has records in the journal of each).
 use Rattle.std.specs.Prelude.{◌≡◌, ◌≢◌, ℕ, suc, ◌+◌, ◌<◌, ◌==◌, ◌^◌, nat_lt, Bool, if◌then◌else◌, List, [], ◌∷◌, length, filter, Option, Some, None, is_some}
 use Rattle.std.specs.List.{AllByRecursion}
+use Rattle.global_defs.specs.declared.limits.TheConstants.{MOST_REGIONS}
 use Rattle.global_defs.specs.Entry.{Update, Transaction}
 use Rattle.journal_defs.specs.Journal.{Item, Part}
 use Rattle.journal_defs.specs.Sequence.{REGIONS, in_mask}
@@ -35,6 +36,6 @@ mask_of region us = mask_with (λ r. nat_lt 0 (length (items_for region r us))) 
 -- What a transaction and a mask have to be.
 pub record IsSplit (region : Update → ℕ) (mask : ℕ) (t : Transaction) : Type 0 where
   pub not_empty : t.updates ≢ []
-  pub regions : AllByRecursion (λ u. region u < 8) t.updates
+  pub regions : AllByRecursion (λ u. region u < MOST_REGIONS) t.updates
   -- the mask is that of the regions that have a part
   pub is_mask : (n r : ℕ) → in_mask mask r ≡ is_some (split region n mask t r)

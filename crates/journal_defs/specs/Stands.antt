@@ -4,7 +4,8 @@ use Rattle.std.specs.Prelude.{◌≡◌, ℕ, zero, suc, ◌<◌, ◌≤◌, Lis
 use Rattle.std.specs.List.{AllZip}
 use Rattle.disk_defs.specs.Disk.{Files}
 use Rattle.disk_defs.specs.Gates.{Body, records}
-use Rattle.global_defs.specs.Entry.{Sequence, Reign}
+use Rattle.global_defs.specs.Entry.{Sequence}
+use Rattle.global_defs.specs.Rising.{StartsRise}
 use Rattle.journal_defs.specs.Numbers.{INSTANCE, journal_file}
 use Rattle.journal_defs.specs.Journal.{JournalRecord, IsJournalBody, BeginsWithPini}
 use Rattle.journal_defs.specs.Instance.{InstanceRecord, IsInstanceBody, BeginsWithCreate, CutsRise, regions, generation}
@@ -14,11 +15,6 @@ use Rattle.journal_defs.specs.Sequence.{Placed, Records, IsSequence}
 -- the file is in gated text, and its open bodies are those of these records
 abbrev pub Holds : {R : Type 0} → (Body → R → Type 0) → List ℕ → List R → Type 0
 Holds is_body file rs = (bodies : List Body) × (records file ≡ Some bodies) × AllZip is_body bodies rs
-
--- starts rise, from above this one
-abbrev pub StartsRise : ℕ → List Reign → Type 0
-StartsRise low [] = Unit {0}
-StartsRise low (r ∷ rs) = (low < r.start) × StartsRise r.start rs
 
 -- The instance file has these records: CREATE first, CUTs of rising generations, surviving reigns with rising starts.
 pub record IsInstance (file : List ℕ) (rs : List InstanceRecord) : Type 0 where

@@ -1,6 +1,7 @@
 //! Worked bytes of instance files, journals and blocks, and the files' numbers.
 
 ghost use Rattle.std.specs.Prelude.{◌≡◌, ◌^◌, pos, true, false, [], ◌∷◌, replicate, Some, codes};
+ghost use Rattle.global_defs.specs.declared.limits.TheConstants.{MOST_GENERATIONS};
 ghost use Rattle.disk_defs.specs.Gates.{records};
 ghost use Rattle.global_defs.specs.Key.{Number};
 ghost use Rattle.global_defs.specs.Entry.{Set};
@@ -17,7 +18,7 @@ pub fn file_numbers_are()
     ensures first_journal { journal_file 1 0 ≡ 24 }
     ensures next_region { journal_file 1 1 ≡ 25 }
     ensures next_generation { journal_file 2 0 ≡ 32 }
-    ensures last_journal { journal_file 65535 7 ≡ 524303 }
+    ensures last_journal { journal_file MOST_GENERATIONS 7 ≡ 524303 }
     ensures lost { lost_file 3 ≡ 1000003 }
     ensures broken { broken_file 2 ≡ 2000002 }
 {}

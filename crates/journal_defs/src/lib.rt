@@ -12,4 +12,5 @@ pub mod broken_parts;
 pub mod bytes;
 pub mod directories;
 pub mod entries;
+pub mod files;
 pub mod survivors;

@@ -3,6 +3,7 @@ use Rattle.std.proofs.Common.{◌≡◌, ◌≢◌, inl, inr, ℕ, zero, suc, �
 use Rattle.std.proofs.lemmas.Bool.{cases_eq}
 use Rattle.std.proofs.lemmas.Bool.Decides.{nat_tests}
 use Rattle.std.specs.List.{AllByRecursion, AllZip, cons_option, take-map}
+use Rattle.global_defs.specs.declared.limits.TheConstants.{MOST_REGIONS}
 use Rattle.disk_defs.specs.Disk.{Files}
 use Rattle.disk_defs.specs.Gates.{Body, records}
 use Rattle.journal_defs.specs.Journal.{JournalRecord, Pini, Epoch, Pblk, Tcom, Part, IsJournalBody, IsNoPini, BeginsWithPini}
@@ -48,7 +49,7 @@ journal_same old new q (suc g) last js same h = (
   h.7,
 )
 
-other_file : (h g q r : ℕ) → q < 8 → r < 8 → (h ≡ g → q ≡ r → ⊥) → journal_file h q ≢ journal_file g r
+other_file : (h g q r : ℕ) → q < MOST_REGIONS → r < MOST_REGIONS → (h ≡ g → q ≡ r → ⊥) → journal_file h q ≢ journal_file g r
 other_file h g q r low low2 other same = other (omega arith) (omega arith)
 
 pub here : (s : Records) (r : ℕ) (ps : List Placed) → (with_journal s r ps).journal r ≡ s.journal r ++ ps
@@ -76,7 +77,7 @@ newest_more old new r g last older newer xs bodies more newest same old_is new_i
     )
 
 pub appended : (old new : Files) (s : Records) (r g last : ℕ) (older : List Placed) (newer xs : List JournalRecord) (bodies more : List Body)
-    → AreRecords old s → generation s.instance ≡ suc g → r < length (regions s.instance) → length (regions s.instance) ≤ 8
+    → AreRecords old s → generation s.instance ≡ suc g → r < length (regions s.instance) → length (regions s.instance) ≤ MOST_REGIONS
     → IsNewest old r g last older newer → s.journal r ≡ older ++ map (in_generation (suc g)) newer
     → ((f : ℕ) → f ≢ journal_file (suc g) r → new f ≡ old f)
     → records (old (journal_file (suc g) r)) ≡ Some bodies → records (new (journal_file (suc g) r)) ≡ Some (bodies ++ more)

@@ -1,9 +1,11 @@
 -- Files past the newest generation.
 use Rattle.std.proofs.Common.{◌≡◌, ◌≢◌, ℕ, ◌+◌, ◌≤◌, ◌<◌, List, [], ◌∷◌, ◌++◌, length, sym, ◌∙◌, ap, subst, arith}
+use Rattle.global_defs.specs.declared.limits.TheConstants.{MOST_REGIONS}
+use Rattle.global_defs.specs.Region.{Region}
 use Rattle.disk_defs.specs.Disk.{Files}
 use Rattle.disk_defs.specs.Gates.{records}
 use Rattle.journal_defs.specs.Numbers.{INSTANCE, journal_file, lost_file, broken_file}
-use Rattle.journal_defs.specs.Instance.{InstanceRecord, Cut, NamedMode, generation, regions, site_name}
+use Rattle.journal_defs.specs.Instance.{InstanceRecord, Cut, generation, regions, site_name}
 use Rattle.journal_defs.specs.Sequence.{Records}
 use Rattle.journal_defs.specs.Broken.{broken, broken_text}
 use Rattle.journal_defs.specs.Growth.{with_record}
@@ -17,7 +19,7 @@ cut old new s t g n m clean some past same =
     record {
       journals = λ h r undrawn here.
           ap records (same (journal_file h r) (λ e. omega arith))
-          ∙ clean.journals h r (omega (arith, newest, past, undrawn.0), undrawn.1) (subst (λ (l : List NamedMode). r < length l) (same_regions s.instance t g some) here);
+          ∙ clean.journals h r (omega (arith, newest, past, undrawn.0), undrawn.1) (subst (λ (l : List Region). r < length l) (same_regions s.instance t g some) here);
       lost = λ h undrawn. same (lost_file h) (λ e. omega arith) ∙ clean.lost h (omega (arith, newest, past, undrawn.0), undrawn.1);
       first_broken = λ h undrawn first.
           let none : new (broken_file h) ≡ [] = same (broken_file h) (λ e. omega arith) ∙ clean.later_broken h (omega (arith, newest, past, undrawn.0), undrawn.1) (omega (arith, newest, past, undrawn.0)) in
@@ -26,7 +28,7 @@ cut old new s t g n m clean some past same =
       later_broken = λ h undrawn later. same (broken_file h) (λ e. omega arith) ∙ clean.later_broken h (omega (arith, newest, past, undrawn.0), undrawn.1) (omega (arith, newest, past, undrawn.0));
     }
 
-pub broken_written : (old new : Files) (s : Records) (n : ℕ) → AreClean old s n → length (regions s.instance) ≤ 8
+pub broken_written : (old new : Files) (s : Records) (n : ℕ) → AreClean old s n → length (regions s.instance) ≤ MOST_REGIONS
     → ((f : ℕ) → f ≢ broken_file (generation s.instance + 1) → new f ≡ old f)
     → length (new (broken_file (generation s.instance + 1))) ≤ length (broken_text (site_name s.instance) n (broken s n)) → AreClean new s n
 broken_written old new s n clean few same short = record {

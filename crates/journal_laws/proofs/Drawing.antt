@@ -5,13 +5,15 @@ use Rattle.std.specs.List.{AllByRecursion, AllZip}
 use Rattle.disk_defs.specs.Disk.{Files}
 use Rattle.disk_defs.specs.Gates.{Body, records}
 use Rattle.global_defs.specs.Entry.{Reign}
+use Rattle.global_defs.specs.Rising.{StartsRise}
+use Rattle.global_defs.specs.Region.{Region}
 use Rattle.journal_defs.specs.Journal.{JournalRecord}
-use Rattle.journal_defs.specs.Instance.{InstanceRecord, Create, Reigned, Cut, Map, Mode, NamedMode, IsInstanceBody, IsNoCreate, BeginsWithCreate, CutsRise, generation, regions}
+use Rattle.journal_defs.specs.Instance.{InstanceRecord, Create, Reigned, Cut, Map, Mode, IsInstanceBody, IsNoCreate, BeginsWithCreate, CutsRise, generation, regions}
 use Rattle.journal_defs.specs.Surviving.{reigns}
 use Rattle.journal_defs.specs.Sequence.{Placed, Records}
 use Rattle.journal_defs.specs.Growth.{with_record, IsBefore}
 use Rattle.journal_defs.specs.Numbers.{INSTANCE, journal_file}
-use Rattle.journal_defs.specs.Stands.{Holds, StartsRise, IsJournal, in_generation, AreRecords}
+use Rattle.journal_defs.specs.Stands.{Holds, IsJournal, in_generation, AreRecords}
 use Rattle.journal_laws.proofs.Runs.{reigns-cut, starts_by}
 use Rattle.journal_laws.proofs.Appending.{zip_append, journal_same}
 
@@ -87,7 +89,7 @@ cut old new s t g bodies body held some past clean same old_is new_is spelled = 
     reigns = subst (StartsRise 0) (sym (reigns-cut s.instance t g)) (starts_kept (starts_by t) (reigns s.instance) 0 held.instance.reigns);
   };
   journals = λ r low.
-      let here : r < length (regions s.instance) = subst (λ (l : List NamedMode). r < length l) (same_regions s.instance t g some) low in
+      let here : r < length (regions s.instance) = subst (λ (l : List Region). r < length l) (same_regions s.instance t g some) low in
       let theirs = held.journals r here in
       let gap : g ≡ (g - generation s.instance) + generation s.instance = omega arith in (
         theirs.0,
@@ -96,7 +98,7 @@ cut old new s t g bodies body held some past clean same old_is new_is spelled = 
             (subst (λ (k : ℕ). IsJournal old r k theirs.0 (s.journal r)) (sym gap)
             (journal_later old r (generation s.instance) (g - generation s.instance) theirs.0 (s.journal r) (λ h low high. clean h r low (omega arith) here) theirs.1))),
       );
-  no_more = λ r low. held.no_more r (subst (λ (l : List NamedMode). length l ≤ r) (same_regions s.instance t g some) low);
+  no_more = λ r low. held.no_more r (subst (λ (l : List Region). length l ≤ r) (same_regions s.instance t g some) low);
 }
   where
     mine : Holds IsInstanceBody (old INSTANCE) s.instance

@@ -6,13 +6,14 @@ use Rattle.std.proofs.lemmas.List.Folds.{list_all-append}
 use Rattle.std.proofs.lemmas.Grind.{flat_map-append}
 use Rattle.std.specs.List.{AllByRecursion, fold}
 use Rattle.std.specs.FinMap as globals
+use Rattle.global_defs.specs.declared.limits.TheConstants.{MOST_NODES}
 use Rattle.global_defs.specs.Entry.{Update, Sequence, apply}
-use Rattle.global_defs.specs.Evaluation.{MOST_NODES}
+use Rattle.global_defs.specs.Rising.{SerialsRise}
 use Rattle.journal_defs.specs.Journal.{JournalRecord, Pini, Epoch, Pblk, Tcom}
 use Rattle.journal_defs.specs.Instance.{InstanceRecord, Cut}
 use Rattle.journal_defs.specs.Directory.{Pattern, pattern_in}
 use Rattle.journal_defs.specs.Surviving.{survives, spares}
-use Rattle.journal_defs.specs.Fit.{region_of_update, IsAtHome, HasFewNodes, SerialsRise}
+use Rattle.journal_defs.specs.Fit.{region_of_update, IsAtHome, HasFewNodes}
 use Rattle.journal_laws.proofs.EveryTarget.{patterns_same}
 
 -- all updates of a sequence, one entry after another

@@ -2,6 +2,7 @@
 use Rattle.std.proofs.Common.{◌≡◌, ◌≢◌, ◌⊎◌, inl, inr, ℕ, zero, suc, ◌+◌, ◌≤◌, ◌<◌, List, [], ◌∷◌, ◌++◌, length, take, Option, Some, None, refl, sym, ◌∙◌, ap, subst, arith, append_assoc, append-nil, length-append, length-take-le}
 use Rattle.std.proofs.lemmas.Bool.{cases_eq}
 use Rattle.std.specs.List.{AllByRecursion}
+use Rattle.global_defs.specs.declared.limits.TheConstants.{MOST_REGIONS}
 use Rattle.disk_defs.specs.Disk.{Files}
 use Rattle.disk_defs.specs.Gates.{records}
 use Rattle.global_defs.specs.Entry.{Globals, Sequence}
@@ -77,7 +78,7 @@ same_clean old new s n clean journals lost texts = record {
 }
 
 -- a block written
-pub written : (old new : Files) (s : Records) (seq : Sequence) (r b : ℕ) → IsSoundImage old s seq → length (regions s.instance) ≤ 8 → r < length (regions s.instance)
+pub written : (old new : Files) (s : Records) (seq : Sequence) (r b : ℕ) → IsSoundImage old s seq → length (regions s.instance) ≤ MOST_REGIONS → r < length (regions s.instance)
     → ((f : ℕ) → f ≢ database_file r → new f ≡ old f) → SameBut b (block_of (old (database_file r))) (block_of (new (database_file r)))
     → NeedsForward s.instance (length seq) (s.journal r) ⊎ MayWrite (chosen s.instance (length seq) (s.journal r)) b → IsSoundImage new s seq
 written old new s seq r b image few here same one may = record {

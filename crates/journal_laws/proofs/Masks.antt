@@ -5,6 +5,7 @@ use Rattle.std.proofs.lemmas.Bool.Decides.{nat_tests}
 use Rattle.std.proofs.lemmas.Nat.Bits.{and_pow}
 use Rattle.std.specs.Int.{bit_at}
 use Rattle.std.specs.List.{AllByRecursion}
+use Rattle.global_defs.specs.declared.limits.TheConstants.{MOST_REGIONS}
 use Rattle.global_defs.specs.Entry.{Update, Transaction}
 use Rattle.journal_defs.specs.Journal.{Item}
 use Rattle.journal_defs.specs.Sequence.{REGIONS, in_mask}
@@ -55,7 +56,7 @@ flags_of has = has 0 ∷ has 1 ∷ has 2 ∷ has 3 ∷ has 4 ∷ has 5 ∷ has 6
 bits : (has : ℕ → Bool) → are_bits (flags_of has) ≡ true
 bits has = each_flags 8 are_bits all_bits (flags_of has) refl
 
-in_it : (has : ℕ → Bool) (r : ℕ) → r < 8 → in_mask (mask_with has REGIONS) r ≡ has r
+in_it : (has : ℕ → Bool) (r : ℕ) → r < MOST_REGIONS → in_mask (mask_with has REGIONS) r ≡ has r
 in_it has r low =
     let mask : ℕ = mask_with has REGIONS in
     let same = λ (k : ℕ). same_flag (in_mask mask k) (has k) in
@@ -74,7 +75,7 @@ in_it has r low =
 
     pick : same_flag (in_mask mask 0) (has 0) ≡ true → same_flag (in_mask mask 1) (has 1) ≡ true → same_flag (in_mask mask 2) (has 2) ≡ true → same_flag (in_mask mask 3) (has 3) ≡ true
         → same_flag (in_mask mask 4) (has 4) ≡ true → same_flag (in_mask mask 5) (has 5) ≡ true → same_flag (in_mask mask 6) (has 6) ≡ true → same_flag (in_mask mask 7) (has 7) ≡ true
-        → (r : ℕ) → r < 8 → in_mask mask r ≡ has r
+        → (r : ℕ) → r < MOST_REGIONS → in_mask mask r ≡ has r
     pick a b c d e f g h zero low = from_same (in_mask mask 0) (has 0) a
     pick a b c d e f g h (suc zero) low = from_same (in_mask mask 1) (has 1) b
     pick a b c d e f g h (suc (suc zero)) low = from_same (in_mask mask 2) (has 2) c
@@ -112,17 +113,17 @@ no_bit n k low past =
     ap (λ (m : ℕ). not (m == 0)) zero_is
 
 -- a region past the eight has no items
-none_past : (region : Update → ℕ) (i r : ℕ) (us : List Update) → AllByRecursion (λ u. region u < 8) us → 8 ≤ r → filter (λ x. region x.update == r) (numbered i us) ≡ []
+none_past : (region : Update → ℕ) (i r : ℕ) (us : List Update) → AllByRecursion (λ u. region u < MOST_REGIONS) us → 8 ≤ r → filter (λ x. region x.update == r) (numbered i us) ≡ []
 none_past region i r [] low past = refl
 none_past region i r (u ∷ us) low past =
-    let other : (region u == r) ≡ false = (let here : region u < 8 = low.0 in grind (arith, nat_tests, here, past)) in
+    let other : (region u == r) ≡ false = (let here : region u < MOST_REGIONS = low.0 in grind (arith, nat_tests, here, past)) in
     rw other (none_past region (suc i) r us low.1 past)
 
 some_items : (n mask : ℕ) (t : Transaction) (xs : List Item) → nat_lt 0 (length xs) ≡ is_some (with_items n mask t xs)
 some_items n mask t [] = refl
 some_items n mask t (x ∷ xs) = grind (arith, nat_tests)
 
-pub made : (region : Update → ℕ) (t : Transaction) → t.updates ≢ [] → AllByRecursion (λ u. region u < 8) t.updates → IsSplit region (mask_of region t.updates) t
+pub made : (region : Update → ℕ) (t : Transaction) → t.updates ≢ [] → AllByRecursion (λ u. region u < MOST_REGIONS) t.updates → IsSplit region (mask_of region t.updates) t
 made region t some low = record {
   not_empty = some;
   regions = low;

@@ -4,6 +4,7 @@ use Rattle.std.proofs.lemmas.Bool.{cases_eq, cases_Bool}
 use Rattle.std.proofs.lemmas.Bool.Decides.{nat_tests}
 use Rattle.std.specs.List.{AllByRecursion, list_all}
 use Rattle.std.specs.Option.{option_or, option_and_then}
+use Rattle.global_defs.specs.declared.limits.TheConstants.{MOST_REGIONS}
 use Rattle.global_defs.specs.Entry.{Update, Transaction, Stamp, Entry}
 use Rattle.global_defs.specs.Serial.{entry_of}
 use Rattle.journal_defs.specs.Journal.{Part, Item}
@@ -21,7 +22,7 @@ abbrev times : ℕ → List ℕ → ℕ
 times k [] = 0
 times k (r ∷ rs) = (if k == r then 1 else 0) + times k rs
 
-once : (k : ℕ) → k < 8 → times k REGIONS ≡ 1
+once : (k : ℕ) → k < MOST_REGIONS → times k REGIONS ≡ 1
 once zero low = refl
 once (suc zero) low = refl
 once (suc (suc zero)) low = refl
@@ -46,7 +47,7 @@ length_more region x xs (r ∷ rs) =
     let d : length (filter f xs ++ joined region xs rs) ≡ length (filter f xs) + length (joined region xs rs) = length-append (filter f xs) (joined region xs rs) in
     omega arith
 
-length_joined : (region : Update → ℕ) (us : List Update) (i : ℕ) → AllByRecursion (λ u. region u < 8) us → length (joined region (numbered i us) REGIONS) ≡ length us
+length_joined : (region : Update → ℕ) (us : List Update) (i : ℕ) → AllByRecursion (λ u. region u < MOST_REGIONS) us → length (joined region (numbered i us) REGIONS) ≡ length us
 length_joined region [] i low = refl
 length_joined region (u ∷ us) i low =
     let x : Item = record { position = i; update = u } in
@@ -116,10 +117,10 @@ find_joined region us j u more (r ∷ rs) is among =
       | inr h ↦ rw h (find_joined region us j u more rs is (let some = rw h at among in omega arith))
     ]
 
-region_at : (region : Update → ℕ) (us : List Update) (j : ℕ) (u : Update) (more : List Update) → AllByRecursion (λ u. region u < 8) us → drop j us ≡ u ∷ more → region u < 8
+region_at : (region : Update → ℕ) (us : List Update) (j : ℕ) (u : Update) (more : List Update) → AllByRecursion (λ u. region u < MOST_REGIONS) us → drop j us ≡ u ∷ more → region u < MOST_REGIONS
 region_at region [] zero u more low is = let none : [] ≡ u ∷ more = is in cc
 region_at region [] (suc j) u more low is = let none : [] ≡ u ∷ more = is in cc
-region_at region (v ∷ us) zero u more low is = let first : v ≡ u = (let both : v ∷ us ≡ u ∷ more = is in cc) in subst (λ (x : Update). region x < 8) first low.0
+region_at region (v ∷ us) zero u more low is = let first : v ≡ u = (let both : v ∷ us ≡ u ∷ more = is in cc) in subst (λ (x : Update). region x < MOST_REGIONS) first low.0
 region_at region (v ∷ us) (suc j) u more low is = region_at region us j u more low.1 is
 
 updates_all : (items : List Item) (us : List Update) (i : ℕ) → ((j m : ℕ) (u : Update) (more : List Update) → m ≡ i + j → drop j us ≡ u ∷ more → update_at items m ≡ Some u)
@@ -129,7 +130,7 @@ updates_all items (u ∷ us) i each =
     ap (λ (o : Option Update). option_and_then (λ v. option_map (λ vs. v ∷ vs) (updates_from items (suc i) (length us))) o) (each 0 i u us (omega arith) refl)
     ∙ ap (λ (o : Option (List Update)). option_map (λ vs. u ∷ vs) o) (updates_all items us (suc i) (λ j m v more place is. each (suc j) m v more (omega arith) is))
 
-merged : (region : Update → ℕ) (us : List Update) → AllByRecursion (λ u. region u < 8) us → updates_of (joined region (numbered 0 us) REGIONS) (length us) ≡ Some us
+merged : (region : Update → ℕ) (us : List Update) → AllByRecursion (λ u. region u < MOST_REGIONS) us → updates_of (joined region (numbered 0 us) REGIONS) (length us) ≡ Some us
 merged region us low =
     let items : List Item = joined region (numbered 0 us) REGIONS in
     let all : (length items == length us) ≡ true = (let same : length items ≡ length us = length_joined region us 0 low in grind (arith, nat_tests)) in
@@ -199,8 +200,8 @@ found_in : (f : Item → Bool) (xs : List Item) (x : Item) (n mask : ℕ) (t : T
 found_in f [] x n mask t is = let none : None ≡ Some x = is in cc
 found_in f (y ∷ xs) x n mask t is = (part_with n mask t (y ∷ xs), refl)
 
-some_part : (region : Update → ℕ) (n mask : ℕ) (t : Transaction) (us : List Update) → us ≢ [] → AllByRecursion (λ u. region u < 8) us
-    → (k : ℕ) × (k < 8) × (p : Part) × (with_items n mask t (items_for region k us) ≡ Some p)
+some_part : (region : Update → ℕ) (n mask : ℕ) (t : Transaction) (us : List Update) → us ≢ [] → AllByRecursion (λ u. region u < MOST_REGIONS) us
+    → (k : ℕ) × (k < MOST_REGIONS) × (p : Part) × (with_items n mask t (items_for region k us) ≡ Some p)
 some_part region n mask t [] some low = absurd (some refl)
 some_part region n mask t (u ∷ us) some low =
     let k : ℕ = region u in

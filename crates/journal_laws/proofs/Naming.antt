@@ -4,11 +4,13 @@ use Rattle.std.specs.List.{AllByRecursion, AllZip}
 use Rattle.disk_defs.specs.Disk.{Files}
 use Rattle.disk_defs.specs.Gates.{Body, records}
 use Rattle.global_defs.specs.Entry.{Reign}
+use Rattle.global_defs.specs.Rising.{StartsRise}
+use Rattle.global_defs.specs.Region.{Region}
 use Rattle.journal_defs.specs.Numbers.{INSTANCE, journal_file}
-use Rattle.journal_defs.specs.Instance.{InstanceRecord, Create, Reigned, Cut, Map, Mode, NamedMode, IsInstanceBody, IsNoCreate, IsNoCut, BeginsWithCreate, CutsRise, generation, regions}
+use Rattle.journal_defs.specs.Instance.{InstanceRecord, Create, Reigned, Cut, Map, Mode, IsInstanceBody, IsNoCreate, IsNoCut, BeginsWithCreate, CutsRise, generation, regions}
 use Rattle.journal_defs.specs.Surviving.{reigns}
 use Rattle.journal_defs.specs.Growth.{with_record}
-use Rattle.journal_defs.specs.Stands.{Holds, StartsRise, IsJournal, AreRecords}
+use Rattle.journal_defs.specs.Stands.{Holds, IsJournal, AreRecords}
 use Rattle.journal_defs.specs.Sequence.{Records}
 use Rattle.journal_laws.proofs.Runs.{reigns-more}
 use Rattle.journal_laws.proofs.Later.{reigns-same}
@@ -75,13 +77,13 @@ other old new s x bodies body held some plain uncut rise same old_is new_is spel
     reigns = rise;
   };
   journals = λ r low.
-      let here : r < length (regions s.instance) = subst (λ (l : List NamedMode). r < length l) (same_regions s.instance x some) low in
+      let here : r < length (regions s.instance) = subst (λ (l : List Region). r < length l) (same_regions s.instance x some) low in
       let theirs = held.journals r here in (
         theirs.0,
         subst (λ (k : ℕ). IsJournal new r k theirs.0 (s.journal r)) (sym (generation-same s.instance x uncut))
             (journal_same old new r (generation s.instance) theirs.0 (s.journal r) (λ h low. same (journal_file h r) (λ e. omega arith)) theirs.1),
       );
-  no_more = λ r low. held.no_more r (subst (λ (l : List NamedMode). length l ≤ r) (same_regions s.instance x some) low);
+  no_more = λ r low. held.no_more r (subst (λ (l : List Region). length l ≤ r) (same_regions s.instance x some) low);
 }
   where
     mine : Holds IsInstanceBody (old INSTANCE) s.instance

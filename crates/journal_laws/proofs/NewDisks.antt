@@ -9,14 +9,16 @@ use Rattle.global_defs.specs.Key.{Key, key_cmp}
 use Rattle.global_defs.specs.Encoded.{encoded}
 use Rattle.global_defs.proofs.Order.{key_total, key_same}
 use Rattle.global_defs.specs.Entry.{Globals}
+use Rattle.global_defs.specs.Rising.{SerialsRise}
+use Rattle.global_defs.specs.Region.{Region}
 use Rattle.journal_defs.specs.Numbers.{INSTANCE, journal_file, lost_file, broken_file, database_file}
-use Rattle.journal_defs.specs.Instance.{InstanceRecord, Create, NamedMode, IsInstanceBody}
+use Rattle.journal_defs.specs.Instance.{InstanceRecord, Create, IsInstanceBody}
 use Rattle.journal_defs.specs.Directory.{patterns, region_of}
 use Rattle.journal_defs.specs.Sequence.{Records}
 use Rattle.journal_defs.specs.Epochs.{Blocks, beginning, image_state, block_of}
 use Rattle.journal_defs.specs.Leaves.{cells_of}
 use Rattle.journal_defs.specs.Sound.{AreWhole, Restores, region_state}
-use Rattle.journal_defs.specs.Fit.{HasFewNodes, SerialsRise, IsFitImage}
+use Rattle.journal_defs.specs.Fit.{HasFewNodes, IsFitImage}
 
 -- no record but those of the instance file
 abbrev without_journals : List InstanceRecord → Records
@@ -95,7 +97,7 @@ empty_leaf blocks g none = (
   ),
 )
 
-pub created_is_fit : (files : Files) (name : List ℕ) (named : List NamedMode) (body : Body) → IsInstanceBody body (Create name named)
+pub created_is_fit : (files : Files) (name : List ℕ) (named : List Region) (body : Body) → IsInstanceBody body (Create name named)
     → records (files INSTANCE) ≡ Some (body ∷ []) → ((f : ℕ) → f ≢ INSTANCE → files f ≡ [])
     → IsFitImage files (without_journals (Create name named ∷ [])) []
 created_is_fit files name named body spelled is none = record {

@@ -10,8 +10,9 @@ use Rattle.disk_defs.specs.Gates.{Body, records}
 use Rattle.global_defs.specs.Encoded.{encoded}
 use Rattle.global_defs.specs.Entry.{Update, Set, Kill, ZKill, Sequence}
 use Rattle.global_defs.specs.Fields.{flag, short, long, spelled_update, IsUpdate}
+use Rattle.global_defs.specs.Region.{Region}
 use Rattle.journal_defs.specs.Journal.{JournalRecord, Pini, Epoch, Pblk, Tcom, Item, Part, spelled_item, Rise, IsItem, IsJournalBody}
-use Rattle.journal_defs.specs.Instance.{InstanceRecord, Create, Reigned, Cut, Map, Mode, NamedMode, spelled_region, IsInstanceBody, generation, regions}
+use Rattle.journal_defs.specs.Instance.{InstanceRecord, Create, Reigned, Cut, Map, Mode, spelled_region, IsInstanceBody, generation, regions}
 use Rattle.journal_defs.specs.Sequence.{Placed, Records, IsSequence}
 use Rattle.journal_defs.specs.Stands.{Holds, IsJournal, last_began, in_generation, AreRecords, Stands}
 use Rattle.journal_defs.specs.Numbers.{journal_file}
@@ -57,14 +58,14 @@ flag_one true false h = absurd (omega arith)
 flag_one false true h = absurd (omega arith)
 
 -- instance records
-region_one : (r q : NamedMode) (x y : List ℕ) → spelled_region r ++ x ≡ spelled_region q ++ y → (r ≡ q) × (x ≡ y)
+region_one : (r q : Region) (x y : List ℕ) → spelled_region r ++ x ≡ spelled_region q ++ y → (r ≡ q) × (x ≡ y)
 region_one r q x y h =
     let front = short_one r.name q.name (flag r.before ∷ x) (flag q.before ∷ y) (sym (append_assoc (short r.name) (flag r.before ∷ []) x) ∙ h ∙ append_assoc (short q.name) (flag q.before ∷ []) y) in
     let rest = cons_one (flag r.before) (flag q.before) x y front.1 in
     let before = flag_one r.before q.before rest.0 in
     ((λ i. record { name = front.0 i; before = before i }), rest.1)
 
-regions_one : (rs qs : List NamedMode) → length rs ≡ length qs → flat_map spelled_region rs ≡ flat_map spelled_region qs → rs ≡ qs
+regions_one : (rs qs : List Region) → length rs ≡ length qs → flat_map spelled_region rs ≡ flat_map spelled_region qs → rs ≡ qs
 regions_one [] [] same h = refl
 regions_one [] (q ∷ qs) same h = absurd (omega arith)
 regions_one (r ∷ rs) [] same h = absurd (omega arith)

@@ -5,9 +5,10 @@ use Rattle.std.specs.List.{AllByRecursion}
 use Rattle.std.specs.Option.{option_or}
 use Rattle.disk_defs.specs.Disk.{Files}
 use Rattle.global_defs.specs.Entry.{Sequence, Reign}
+use Rattle.global_defs.specs.Region.{Region}
 use Rattle.journal_defs.specs.Numbers.{database_file}
 use Rattle.journal_defs.specs.Journal.{Epoch, Part, Mark}
-use Rattle.journal_defs.specs.Instance.{InstanceRecord, Reigned, Cut, NamedMode, regions}
+use Rattle.journal_defs.specs.Instance.{InstanceRecord, Reigned, Cut, regions}
 use Rattle.journal_defs.specs.Directory.{Pattern, pattern_in, patterns}
 use Rattle.journal_defs.specs.Surviving.{survives, spares}
 use Rattle.journal_defs.specs.Sequence.{Placed, Records, parts, part_in, part_of, IsSequence}
@@ -40,13 +41,13 @@ cut old new s seq t g image some low before held clean databases = record {
   sequence = runs.cut s seq t g image.sequence low before;
   clean = clean (length (take t seq));
   sound = λ u high r here.
-      let there : r < length (regions s.instance) = subst (λ (l : List NamedMode). r < length l) (same_regions s.instance t g some) here in
+      let there : r < length (regions s.instance) = subst (λ (l : List Region). r < length l) (same_regions s.instance t g some) here in
       region r there u high;
   grow = λ r here.
-      let there : r < length (regions s.instance) = subst (λ (l : List NamedMode). r < length l) (same_regions s.instance t g some) here in
+      let there : r < length (regions s.instance) = subst (λ (l : List Region). r < length l) (same_regions s.instance t g some) here in
       subst (λ (n : ℕ). BlocksGrow (s.instance ++ Cut t g ∷ []) n (s.journal r)) (sym size) (every.grow_cut s.instance (length seq) t g (s.journal r) (image.grow r there) low);
   at_home = λ r here.
-      let there : r < length (regions s.instance) = subst (λ (l : List NamedMode). r < length l) (same_regions s.instance t g some) here in
+      let there : r < length (regions s.instance) = subst (λ (l : List Region). r < length l) (same_regions s.instance t g some) here in
       all_map (λ p. IsAtHome s.instance r p.generation p.what) (λ p. IsAtHome (s.instance ++ Cut t g ∷ []) r p.generation p.what) (s.journal r)
       (λ p home. facts.at_home_cut s.instance t g r p.generation p.what home) (image.at_home r there);
   few_nodes = facts.few_nodes seq t image.few_nodes;
@@ -72,13 +73,13 @@ instance_record old new s seq x image some spare no_name is held clean databases
   sequence = is;
   clean = clean;
   sound = λ u high r here.
-      let there : r < length (regions s.instance) = subst (λ (l : List NamedMode). r < length l) (naming.same_regions s.instance x some) here in
+      let there : r < length (regions s.instance) = subst (λ (l : List Region). r < length l) (naming.same_regions s.instance x some) here in
       region r there u high;
   grow = λ r here.
-      let there : r < length (regions s.instance) = subst (λ (l : List NamedMode). r < length l) (naming.same_regions s.instance x some) here in
+      let there : r < length (regions s.instance) = subst (λ (l : List Region). r < length l) (naming.same_regions s.instance x some) here in
       later.grow_instance s.instance x (length seq) (s.journal r) spare (image.grow r there);
   at_home = λ r here.
-      let there : r < length (regions s.instance) = subst (λ (l : List NamedMode). r < length l) (naming.same_regions s.instance x some) here in
+      let there : r < length (regions s.instance) = subst (λ (l : List Region). r < length l) (naming.same_regions s.instance x some) here in
       all_map (λ p. IsAtHome s.instance r p.generation p.what) (λ p. IsAtHome (s.instance ++ x ∷ []) r p.generation p.what) (s.journal r)
       (λ p home. facts.at_home_more s.instance x r p.generation p.what no_name home) (image.at_home r there);
   few_nodes = image.few_nodes;

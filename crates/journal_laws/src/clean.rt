@@ -1,6 +1,7 @@
 //! Files past the newest generation.
 
 ghost use Rattle.std.specs.Prelude.{◌≡◌, ◌≢◌, ℕ, ◌+◌, ◌<◌, ◌≤◌, [], length};
+ghost use Rattle.global_defs.specs.declared.limits.TheConstants.{MOST_REGIONS};
 ghost use Rattle.disk_defs.specs.Disk.{Files};
 ghost use Rattle.journal_defs.specs.Numbers.{INSTANCE, journal_file, lost_file, broken_file};
 ghost use Rattle.journal_defs.specs.Instance.{Cut, generation, regions, site_name};
@@ -13,7 +14,7 @@ ghost use Rattle.journal_defs.specs.Clean.{AreClean};
 pub fn clean_stays()
     ensures cut { (old new : Files) (s : Records) (t g n m : ℕ) → AreClean old s n → 1 ≤ length (regions s.instance) → generation s.instance < g
         → ((f : ℕ) → f ≢ INSTANCE → new f ≡ old f) → AreClean new (with_record s (Cut t g)) m }
-    ensures broken_written { (old new : Files) (s : Records) (n : ℕ) → AreClean old s n → length (regions s.instance) ≤ 8
+    ensures broken_written { (old new : Files) (s : Records) (n : ℕ) → AreClean old s n → length (regions s.instance) ≤ MOST_REGIONS
         → ((f : ℕ) → f ≢ broken_file (generation s.instance + 1) → new f ≡ old f)
         → length (new (broken_file (generation s.instance + 1))) ≤ length (broken_text (site_name s.instance) n (broken s n)) → AreClean new s n }
     // files of the generations that were drawn may change, and with them the records of the journals

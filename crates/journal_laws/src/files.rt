@@ -2,6 +2,7 @@
 
 ghost use Rattle.std.specs.Prelude.{◌≡◌, ◌≢◌, ℕ, suc, ◌<◌, ◌≤◌, List, ◌++◌, length, map, take, Option, Some, []};
 ghost use Rattle.std.specs.List.{AllZip};
+ghost use Rattle.global_defs.specs.declared.limits.TheConstants.{MOST_REGIONS};
 ghost use Rattle.disk_defs.specs.Disk.{Files};
 ghost use Rattle.disk_defs.specs.Gates.{Body, records};
 ghost use Rattle.journal_defs.specs.Journal.{JournalRecord, Part, IsJournalBody};
@@ -16,7 +17,7 @@ ghost use Rattle.journal_defs.specs.Instance.{generation, regions};
 /// are their parts.
 pub fn files_hold()
     ensures one_region { (old new : Files) (s : Records) (r g last : ℕ) (older : List Placed) (newer xs : List JournalRecord) (bodies more : List Body)
-        → AreRecords old s → generation s.instance ≡ suc g → r < length (regions s.instance) → length (regions s.instance) ≤ 8
+        → AreRecords old s → generation s.instance ≡ suc g → r < length (regions s.instance) → length (regions s.instance) ≤ MOST_REGIONS
         → IsNewest old r g last older newer → s.journal r ≡ older ++ map (in_generation (suc g)) newer
         → ((f : ℕ) → f ≢ journal_file (suc g) r → new f ≡ old f)
         → records (old (journal_file (suc g) r)) ≡ Some bodies → records (new (journal_file (suc g) r)) ≡ Some (bodies ++ more)

@@ -2,6 +2,7 @@
 
 ghost use Rattle.std.specs.Prelude.{◌≡◌, ◌⊎◌, ℕ, ◌+◌, ◌≤◌, true, None, List, ◌++◌, length, take, Option};
 ghost use Rattle.global_defs.specs.Entry.{Globals, Sequence};
+ghost use Rattle.global_defs.specs.Rising.{SerialsRise};
 ghost use Rattle.journal_defs.specs.Journal.{Part};
 ghost use Rattle.journal_defs.specs.Instance.{InstanceRecord};
 ghost use Rattle.journal_defs.specs.Surviving.{survives};
@@ -9,7 +10,7 @@ ghost use Rattle.journal_defs.specs.Sequence.{Placed, Records, parts, part_of, I
 ghost use Rattle.journal_defs.specs.Growth.{with_parts, with_more, appended, AreEntries, NonePast, AreNumbered, AreTidy, TidyPast, HasFewer, NumbersRise};
 ghost use Rattle.journal_defs.specs.Epochs.{Blocks};
 ghost use Rattle.journal_defs.specs.Sound.{IsSoundRegion};
-ghost use Rattle.journal_defs.specs.Fit.{HasFewNodes, SerialsRise};
+ghost use Rattle.journal_defs.specs.Fit.{HasFewNodes};
 
 /// Whatever parts of the entries that were appended are missing, the records stand for a front of the sequence that has all entries
 /// from before: half an entry is none, and what follows it doesn't count either.

@@ -1,8 +1,9 @@
 //! What appended records make of the sequence.
 
-ghost use Rattle.std.specs.Prelude.{◌≡◌, ℕ, ◌+◌, ◌<◌, ◌≤◌, true, List, [], ◌∷◌, ◌++◌, length, take, filter, nat_le, Option, Some};
+ghost use Rattle.std.specs.Prelude.{◌≡◌, ℕ, ◌+◌, ◌<◌, ◌≤◌, true, List, [], ◌∷◌, ◌++◌, length, take, Option, Some};
 ghost use Rattle.global_defs.specs.Entry.{Entry, Sequence, Reign};
 ghost use Rattle.global_defs.specs.Prefix.{stamp_at};
+ghost use Rattle.global_defs.specs.Rising.{begun_by};
 ghost use Rattle.journal_defs.specs.Journal.{Part};
 ghost use Rattle.journal_defs.specs.Instance.{InstanceRecord, Cut, Reigned};
 ghost use Rattle.journal_defs.specs.Surviving.{survives, spares, reigns};
@@ -26,7 +27,7 @@ pub fn sequences_hold()
     ensures reign { (s : Records) (seq : Sequence) (r : Reign) → IsSequence s seq → NonePast (length seq) s → length seq < r.start
         → IsSequence (with_record s (Reigned r)) seq }
     ensures reigns_after_cut { (instance : List InstanceRecord) (t g : ℕ)
-        → reigns (instance ++ Cut t g ∷ []) ≡ filter (λ r. nat_le r.start t) (reigns instance) }
+        → reigns (instance ++ Cut t g ∷ []) ≡ begun_by t (reigns instance) }
     ensures reigns_after_reign { (instance : List InstanceRecord) (r : Reign) → reigns (instance ++ Reigned r ∷ []) ≡ reigns instance ++ r ∷ [] }
     // a record that leaves every number and every reign, as a MODE
     ensures other_record { (s : Records) (seq : Sequence) (x : InstanceRecord) → ((g m : ℕ) → spares g m x ≡ true)

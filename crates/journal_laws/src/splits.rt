@@ -2,6 +2,7 @@
 
 ghost use Rattle.std.specs.Prelude.{◌≡◌, ◌≢◌, ℕ, List, [], ◌<◌, ◌^◌, Some};
 ghost use Rattle.std.specs.List.{AllByRecursion};
+ghost use Rattle.global_defs.specs.declared.limits.TheConstants.{MOST_REGIONS};
 ghost use Rattle.global_defs.specs.Fields.{IsNumber, IsTransaction};
 ghost use Rattle.global_defs.specs.Entry.{Update, Transaction, Stamp};
 ghost use Rattle.journal_defs.specs.Journal.{Part, IsPart};
@@ -15,7 +16,7 @@ pub fn splits_hold()
     ensures entry { (region : Update → ℕ) (n mask : ℕ) (t : Transaction) (stamp : Stamp) → IsSplit region mask t
         → entry_with (split region n mask t) (Some stamp) ≡ Some (record { stamp = stamp; transaction = t }) }
     // the mask of its regions is one
-    ensures mask { (region : Update → ℕ) (t : Transaction) → t.updates ≢ [] → AllByRecursion (λ u. region u < 8) t.updates
+    ensures mask { (region : Update → ℕ) (t : Transaction) → t.updates ≢ [] → AllByRecursion (λ u. region u < MOST_REGIONS) t.updates
         → IsSplit region (mask_of region t.updates) t }
     ensures mask_below { (region : Update → ℕ) (us : List Update) → mask_of region us < 2 ^ 8 }
     ensures numbered { (region : Update → ℕ) (n mask : ℕ) (t : Transaction) → AreNumbered n (split region n mask t) }

@@ -5,6 +5,7 @@
 
 ghost use Rattle.std.specs.Prelude.{◌≡◌, ◌≢◌, ◌⊎◌, ℕ, suc, ◌<◌, ◌≤◌, true, List, [], ◌∷◌, ◌++◌, length, take, Option, None};
 ghost use Rattle.std.specs.List.{AllByRecursion};
+ghost use Rattle.global_defs.specs.declared.limits.TheConstants.{MOST_REGIONS};
 ghost use Rattle.disk_defs.specs.Disk.{Files};
 ghost use Rattle.disk_defs.specs.Gates.{records};
 ghost use Rattle.global_defs.specs.Entry.{Sequence, Reign};
@@ -30,7 +31,7 @@ pub fn image_keeps_its_sequence()
         → records (new (journal_file h r)) ≡ records (old (journal_file h r)))
         → AreClean new s (length seq) → ((r : ℕ) → r < length (regions s.instance) → new (database_file r) ≡ old (database_file r)) → IsSoundImage new s seq }
     // a write into one block, where it has an image or the region needs forward recovery
-    ensures written { (old new : Files) (s : Records) (seq : Sequence) (r b : ℕ) → IsSoundImage old s seq → length (regions s.instance) ≤ 8
+    ensures written { (old new : Files) (s : Records) (seq : Sequence) (r b : ℕ) → IsSoundImage old s seq → length (regions s.instance) ≤ MOST_REGIONS
         → r < length (regions s.instance) → ((f : ℕ) → f ≢ database_file r → new f ≡ old f)
         → SameBut b (block_of (old (database_file r))) (block_of (new (database_file r)))
         → NeedsForward s.instance (length seq) (s.journal r) ⊎ MayWrite (chosen s.instance (length seq) (s.journal r)) b → IsSoundImage new s seq }

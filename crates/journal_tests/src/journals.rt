@@ -1,5 +1,6 @@
 // Worked bytes of a journal, crashes of one, and generations of a region.
 ghost use Rattle.std.specs.Prelude.{◌≡◌, ◌≤◌, ◌<◌, ◌^◌, [], Some, IfSome, IfOk, OnOk};
+ghost use Rattle.global_defs.specs.declared.limits.TheConstants.{NUMBERS_END};
 ghost use Rattle.disk_defs.specs.Gates.{records};
 ghost use Rattle.jnl_file.specs.Journal.{IsReady};
 
@@ -35,7 +36,7 @@ fn append_epoch<D: Disk>(
     number: u64,
 ) -> Result<(), JournalError>
     requires ready { IsReady (D.disk disk.old) journal.old }
-    requires number { number < 2 ^ 40 }
+    requires number { number < NUMBERS_END }
     ensures ready { OnOk result (IsReady (D.disk disk.new) journal.new) }
     ensures syncs { OnOk result (2 ≤ journal.new.gated.syncs_left) }
 {

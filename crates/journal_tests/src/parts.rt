@@ -1,5 +1,6 @@
 // Transactions over one region and over eight.
 ghost use Rattle.std.specs.Prelude.{◌≤◌, ◌<◌, length};
+ghost use Rattle.global_defs.specs.declared.limits.TheConstants.{MOST_UPDATES};
 ghost use Rattle.global_defs.specs.Fields.{IsUpdate, IsTransaction};
 ghost use Rattle.gvn_key.specs.Terms.{update_value};
 ghost use Rattle.gvn_model.specs.Entries.{transaction_value};
@@ -35,7 +36,7 @@ fn update(rt: &impl Abort, alloc: Global, kind: usize, name: &[u8]) -> Update
 /// A SET, a KILL, a ZKILL and so on, of the names at these places.
 fn transaction(rt: &impl Abort, alloc: Global, places: &[usize]) -> Transaction
     requires some { 1 ≤ length places.now }
-    requires few { length places.now ≤ 256 }
+    requires few { length places.now ≤ MOST_UPDATES }
     ensures { IsTransaction (transaction_value result) }
 {
     let mut updates = Updates::new(alloc);

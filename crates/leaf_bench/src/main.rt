@@ -11,6 +11,7 @@ ghost use Rattle.gvn_key.specs.Terms.{update_value};
 
 use anyhow::{Context, Result};
 use block_fmt::Block;
+use global_defs::limits::BLOCK;
 use gvn_globals::{Globals, Lookup};
 use gvn_key::terms::Update;
 use gvn_key::{Bytes, Key};
@@ -21,9 +22,6 @@ use std::env::Env;
 
 // A value of 20 bytes.
 const VALUE: &[u8] = b"abcdefghijklmnopqrst";
-
-// The size of a block in bytes.
-const BLOCK: usize = 4096;
 
 // The text of a subscript.
 fn subscript(alloc: Global, number: u32) -> Result<Bytes> {

@@ -4,7 +4,8 @@ use Rattle.std.specs.List.{list_any}
 use Rattle.std.specs.Io.KnownBytes.{Consumes, IsAtEnd, prepend_known}
 use Rattle.std.specs.declared.result.Result.{Result}
 use Rattle.std.specs.declared.result.Result.TheVariants.{Err}
-use Rattle.repl_io.specs.Fault.{Rose}
+use Rattle.global_defs.specs.declared.limits.TheConstants.{LONGEST_LINE}
+use Rattle.global_defs.specs.Counts.{Rose}
 use Rattle.line_reader.specs.Ahead.{Ahead}
 use Rattle.line_reader.specs.declared.line.LineEnd.{LineEnd}
 use Rattle.line_reader.specs.declared.line.LineEnd.TheVariants.{Feed, Input, Nothing, TooLong}
@@ -29,8 +30,8 @@ IsPiece bytes = list_any (λ b. b == 10) bytes ≡ false
 
 -- what was taken for a line: its bytes and a line feed, bytes up to the end, nothing, or too many bytes
 abbrev pub EndsLine : LineEnd → List ℕ → Option (List ℕ) → Option (List ℕ) → Type 0
-EndsLine Feed line old new = Consumes old new (line ++ 10 ∷ []) × (length line ≤ 4096)
-EndsLine Input line old new = Consumes old new line × IsAtEnd new × (0 < length line) × (length line ≤ 4096)
+EndsLine Feed line old new = Consumes old new (line ++ 10 ∷ []) × (length line ≤ LONGEST_LINE)
+EndsLine Input line old new = Consumes old new line × IsAtEnd new × (0 < length line) × (length line ≤ LONGEST_LINE)
 EndsLine Nothing line old new = Consumes old new [] × IsAtEnd new
 EndsLine TooLong line old new = Consumes old new line × (length line ≡ 4097)
 

@@ -1,10 +1,11 @@
 //! Bytes that were read ahead.
 ghost use Rattle.std.specs.Prelude.{◌≡◌, ◌≤◌, ◌<◌, ◌+◌, ◌==◌, ℕ, List, [], length, drop, position, IfOk, IfErr, IfSome, OnErr, MatchBool};
 ghost use Rattle.std.specs.Io.KnownBytes.{Consumes, IsAtEnd};
-ghost use Rattle.repl_io.specs.Fault.{HasCause};
+ghost use Rattle.global_defs.specs.Counts.{HasCause};
 ghost use Rattle.line_reader.specs.Lines.{IsPiece, EndsLine, LineCause, Moves, Takes, left_behind};
 
 use crate::line::{LineEnd, LineError};
+use global_defs::limits::LONGEST_LINE;
 use repl_io::{Failed, Source};
 use std::alloc::AllocError;
 use std::marker::Model;
@@ -13,7 +14,7 @@ use std::marker::Model;
 const PIECE: usize = 4096;
 
 /// How many bytes are taken of a line that is too long.
-const TOO_LONG: usize = 4097;
+const TOO_LONG: usize = LONGEST_LINE + 1;
 
 /// What was read of a source and not taken yet, and how many bytes more may be read.
 #[derive(Debug, Drop)]

@@ -1,11 +1,12 @@
 -- What may happen to sites, one atomic step after another (GT.M: updates, journal syncs, replication, rollback and switchover).
 use Rattle.std.specs.Prelude.{◌≡◌, ◌≢◌, ◌⊎◌, ℕ, suc, ◌+◌, ◌-◌, ◌<◌, ◌≤◌, List, [], ◌∷◌, ◌++◌, length, take, set, replicate, slice_get, Some, Bool, false, nat_eq, if◌then◌else◌}
 use Rattle.std.specs.Cmp.Lexicographic.{pointwise}
+use Rattle.global_defs.specs.declared.limits.TheConstants.{MOST_REIGNS, MOST_UPDATERS}
 use Rattle.global_defs.specs.Entry.{Update, Stamp, Entry, Sequence, Reign}
 use Rattle.global_defs.specs.Serial.{entry_of, serial_at}
 use Rattle.global_defs.specs.Prefix.{IsPrefix, stamp_at}
-use Rattle.lineage_defs.specs.Lists.{At}
-use Rattle.lineage_defs.specs.Histories.{MOST_REIGNS, begun_by}
+use Rattle.global_defs.specs.Rising.{begun_by}
+use Rattle.global_defs.specs.Beside.{At}
 use Rattle.lineage_defs.specs.Sites.{Role, Down, Primary, Following, Waiting, Site, World, hardened_part}
 
 -- Sites by their places. A session is named by its follower's.
@@ -51,7 +52,7 @@ pub record Decides (u : ℕ) (old new : Site) : Type 0 where
   pub stamp : Stamp
   pub serials : List ℕ
   pub role : old.role ≡ Primary stamp serials
-  pub updater : (1 ≤ u) × (u ≤ 64)
+  pub updater : (1 ≤ u) × (u ≤ MOST_UPDATERS)
   pub after : (new ≡ record old { role = Primary stamp (picked_once serials u) })
       ⊎ ((updates : List Update) × (new ≡ record old { sequence = old.sequence ++ entry_of stamp u (serial_at serials u) updates ∷ []; role = Primary stamp (picked_once serials u) }))
 

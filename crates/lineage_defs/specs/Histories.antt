@@ -1,20 +1,8 @@
 -- Reigns and what they tell of a sequence (GT.M: the history records of the instance file, from which the resync point is found).
-use Rattle.std.specs.Prelude.{◌≡◌, ◌≢◌, ◌⊎◌, ℕ, suc, ◌<◌, ◌≤◌, nat_le, List, [], ◌∷◌, filter, length, slice_get, Some}
+use Rattle.std.specs.Prelude.{◌≡◌, ◌≢◌, ◌⊎◌, ℕ, suc, ◌<◌, ◌≤◌, List, [], ◌∷◌, length, slice_get, Some}
 use Rattle.global_defs.specs.Entry.{Stamp, Entry, Sequence, Reign}
 use Rattle.global_defs.specs.Prefix.{IsPrefix, History, stamp_at}
-
--- how many reigns a sequence may have
-abbrev pub MOST_REIGNS : ℕ
-MOST_REIGNS = 32768
-
--- the reigns that have begun by a number
-abbrev pub begun_by : ℕ → List Reign → List Reign
-begun_by n reigns = filter (λ r. nat_le r.start n) reigns
-
--- starts rise, from above this one
-abbrev pub StartsRise : ℕ → List Reign → Type 0
-StartsRise low [] = Unit {0}
-StartsRise low (r ∷ rs) = (low < r.start) × StartsRise r.start rs
+use Rattle.global_defs.specs.Rising.{StartsRise, begun_by}
 
 -- no two neighbours have one stamp
 abbrev pub StampsChange : List Reign → Type 0

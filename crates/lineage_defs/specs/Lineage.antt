@@ -1,21 +1,18 @@
 -- What holds of sites, whatever happens to them (GT.M: one history of updates, of which each secondary has a front).
 use Rattle.std.specs.Prelude.{◌≡◌, ◌≢◌, ℕ, suc, ◌+◌, ◌<◌, ◌≤◌, List, ◌++◌, length, take, slice_get, Some}
+use Rattle.global_defs.specs.declared.limits.TheConstants.{MOST_REIGNS}
 use Rattle.global_defs.specs.Entry.{Stamp, Entry, Sequence}
 use Rattle.global_defs.specs.Serial.{serial_at}
 use Rattle.global_defs.specs.Prefix.{IsPrefix, stamp_at}
 use Rattle.global_defs.specs.Extract.{extract, header, entries_text}
-use Rattle.lineage_defs.specs.Histories.{MOST_REIGNS, begun_by, StartsRise, StampsChange, IsHistory, IsLongestCommon}
+use Rattle.global_defs.specs.Rising.{SerialsRise, StartsRise, begun_by}
+use Rattle.lineage_defs.specs.Histories.{StampsChange, IsHistory, IsLongestCommon}
 use Rattle.lineage_defs.specs.Sites.{Primary, Following, Site, World, hardened_part}
 use Rattle.lineage_defs.specs.Events.{Event, Decide, Harden, Send, Receive, Apply, Cut, Crash, Begin, Follow, Roll}
 
 -- Whenever their nth entries have equal stamps, their first n entries are equal. The entry at place i has number i + 1.
 abbrev pub Agree : Sequence → Sequence → Type 0
 Agree xs ys = (i : ℕ) (x y : Entry) → slice_get xs i ≡ Some x → slice_get ys i ≡ Some y → x.stamp ≡ y.stamp → take (suc i) xs ≡ take (suc i) ys
-
--- among the entries of one stamp each updater's serials rise
-abbrev pub SerialsRise : Sequence → Type 0
-SerialsRise seq = (i j : ℕ) (d e : Entry) → i < j → slice_get seq i ≡ Some d → slice_get seq j ≡ Some e → d.stamp ≡ e.stamp
-    → d.transaction.origin.updater ≡ e.transaction.origin.updater → d.transaction.origin.serial < e.transaction.origin.serial
 
 -- an entry under this name has none but the first cycles
 abbrev pub HasCycles : (name : List ℕ) → (most : ℕ) → Sequence → Type 0

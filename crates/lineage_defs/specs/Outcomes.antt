@@ -1,9 +1,10 @@
 -- What a crash may leave of sites, and how sites begin (GT.M: files after a crash, and instances that were just made or brought up again).
 use Rattle.std.specs.Prelude.{◌≡◌, ◌≢◌, ℕ, ◌≤◌, List, length, take, slice_get, Some}
+use Rattle.global_defs.specs.declared.limits.TheConstants.{MOST_REIGNS}
 use Rattle.global_defs.specs.Entry.{Entry, Sequence, Reign}
-use Rattle.lineage_defs.specs.Histories.{MOST_REIGNS, begun_by, IsHistory}
+use Rattle.global_defs.specs.Rising.{SerialsRise, begun_by}
+use Rattle.lineage_defs.specs.Histories.{IsHistory}
 use Rattle.lineage_defs.specs.Sites.{Down, Site, World}
-use Rattle.lineage_defs.specs.Lineage.{SerialsRise}
 
 -- What a crash may leave of the site's sequence: some first entries, with those that are hardened.
 pub record IsOutcome (s : Site) (seq : Sequence) : Type 0 where

@@ -1,5 +1,6 @@
 -- Lists of events by which a section comes about (GT.M: updates of a serial run, and a journal shipped to a secondary).
 use Rattle.std.specs.Prelude.{◌≡◌, ℕ, ◌≤◌, List, [], ◌∷◌, length, Some}
+use Rattle.global_defs.specs.declared.limits.TheConstants.{MOST_UPDATERS}
 use Rattle.global_defs.specs.Entry.{Stamp, Sequence, Reign}
 use Rattle.global_defs.specs.Jobs.{Job}
 use Rattle.global_defs.specs.Serial.{Turn, next_job, picked}
@@ -9,7 +10,7 @@ use Rattle.lineage_defs.specs.Events.{Event, Send, Receive, Apply}
 -- the picks find jobs
 abbrev pub HaveJobs : Stamp → List ℕ → Turn → Type 0
 HaveJobs stamp [] t = Unit {0}
-HaveJobs stamp (u ∷ us) t = (job : Job) × (1 ≤ u) × (u ≤ 64) × (next_job u t.left ≡ Some job) × HaveJobs stamp us (picked stamp t u (Some job))
+HaveJobs stamp (u ∷ us) t = (job : Job) × (1 ≤ u) × (u ≤ MOST_UPDATERS) × (next_job u t.left ≡ Some job) × HaveJobs stamp us (picked stamp t u (Some job))
 
 -- the primary as a serial run leaves it
 abbrev pub as_decided : Site → Stamp → Turn → Site

@@ -1,9 +1,10 @@
 // What the definitions come to on small sites.
 ghost use Rattle.std.specs.Prelude.{◌≡◌, [], ◌∷◌, slice_get, Some};
+ghost use Rattle.global_defs.specs.Rising.{SerialsRise};
 ghost use Rattle.lineage_defs.specs.Histories.{StampsChange, IsHistory, IsCommonOf};
 ghost use Rattle.lineage_defs.specs.Sites.{Waiting, Site, World};
 ghost use Rattle.lineage_defs.specs.Events.{Sends, Adopts, Follows, drawn, Happens, Crash, Roll};
-ghost use Rattle.lineage_defs.specs.Lineage.{Agree, SerialsRise};
+ghost use Rattle.lineage_defs.specs.Lineage.{Agree};
 ghost use Rattle.lineage_defs.specs.Samples.{A, B, stamp, reign, entry, unhardened, whole, behind, parted, set_back_twice};
 
 /// No entry is sent before it is hardened, no crash takes what was hardened, and no site follows one

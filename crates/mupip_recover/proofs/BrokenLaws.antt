@@ -4,12 +4,13 @@ use Rattle.std.proofs.lemmas.List.{append-nil, map-append, take_more, length-map
 use Rattle.std.proofs.lemmas.List.Elements.{filter_map-append}
 use Rattle.std.proofs.lemmas.Grind.{flat_map-append}
 use Rattle.std.specs.List.{flat_map, enumerate_from}
+use Rattle.global_defs.specs.Region.{Region}
+use Rattle.gvn_model.specs.Regions.{named_region}
 use Rattle.journal_defs.specs.Journal.{Part, JournalRecord, Pini, Epoch, Pblk, Tcom}
-use Rattle.journal_defs.specs.Instance.{InstanceRecord, NamedMode}
+use Rattle.journal_defs.specs.Instance.{InstanceRecord}
 use Rattle.journal_defs.specs.Surviving.{survives}
 use Rattle.journal_defs.specs.Sequence.{Placed}
 use Rattle.journal_defs.specs.Broken.{BrokenPart, part_past, parts_past, broken_text}
-use Rattle.instance_file.specs.Values.{named_mode}
 use Rattle.jnl_record.specs.declared.placed.PlacedRecord.{PlacedRecord}
 use Rattle.mupip_recover.specs.Parts.{surviving_in, if_past}
 use Rattle.mupip_recover.specs.Site.{journal_of}
@@ -45,10 +46,10 @@ past_is instance n g (Epoch m) = refl
 past_is instance n g (Pblk b) = refl
 
 -- the broken list of regions, with one more
-pub broken_of-push : (instance : List InstanceRecord) (n : ℕ) (journals : List (List PlacedRecord)) (rs : List NamedMode) (r : NamedMode) (k : ℕ) → k ≡ length rs
+pub broken_of-push : (instance : List InstanceRecord) (n : ℕ) (journals : List (List PlacedRecord)) (rs : List Region) (r : Region) (k : ℕ) → k ≡ length rs
     → broken_of instance n journals (rs ++ r ∷ []) ≡ broken_of instance n journals rs ++ broken_in instance n r.name (journal_of journals k)
 broken_of-push instance n journals rs r k is =
-    let f : ℕ × NamedMode → List BrokenPart = λ x. broken_in instance n x.1.name (journal_of journals x.0) in
+    let f : ℕ × Region → List BrokenPart = λ x. broken_in instance n x.1.name (journal_of journals x.0) in
     let at : 0 + length rs ≡ k = omega (arith, is) in
     ap (flat_map f) (more_numbered 0 rs r ∙ ap (λ (j : ℕ). enumerate_from 0 rs ++ (j, r) ∷ []) at)
     ∙ flat_map-append f (enumerate_from 0 rs) ((k, r) ∷ [])
@@ -69,12 +70,12 @@ journal_more value instance site n region journal i x was mid now within is firs
 -- one region more
 pub regions_more : (instance : List InstanceRecord) (site : List ℕ) (n : ℕ) (journals : List (List PlacedRecord)) (rs : List (List ℕ × Bool)) (i : ℕ) (x : List ℕ × Bool) (region was mid now : List ℕ)
     → i < length rs → x ≡ get_or rs i x → region ≡ x.0
-    → Adds site n (broken_of instance n journals (map named_mode (take i rs))) was mid → Adds site n (broken_in instance n region (journal_of journals i)) mid now
-    → Adds site n (broken_of instance n journals (map named_mode (take (i + 1) rs))) was now
+    → Adds site n (broken_of instance n journals (map named_region (take i rs))) was mid → Adds site n (broken_in instance n region (journal_of journals i)) mid now
+    → Adds site n (broken_of instance n journals (map named_region (take (i + 1) rs))) was now
 regions_more instance site n journals rs i x region was mid now within is name first second =
-    let more : map named_mode (take (i + 1) rs) ≡ map named_mode (take i rs) ++ named_mode x ∷ [] =
-    ap (map named_mode) (take_more rs i x within ∙ ap (λ y. take i rs ++ y ∷ []) (sym is)) ∙ map-append named_mode (take i rs) (x ∷ []) in
-    let many : i ≡ length (map named_mode (take i rs)) = omega (arith, length-map (take i rs) named_mode, length-take i rs) in
+    let more : map named_region (take (i + 1) rs) ≡ map named_region (take i rs) ++ named_region x ∷ [] =
+    ap (map named_region) (take_more rs i x within ∙ ap (λ y. take i rs ++ y ∷ []) (sym is)) ∙ map-append named_region (take i rs) (x ∷ []) in
+    let many : i ≡ length (map named_region (take i rs)) = omega (arith, length-map (take i rs) named_region, length-take i rs) in
     subst (λ (l : List BrokenPart). Adds site n l was now)
-    (sym (ap (broken_of instance n journals) more ∙ broken_of-push instance n journals (map named_mode (take i rs)) (named_mode x) i many))
+    (sym (ap (broken_of instance n journals) more ∙ broken_of-push instance n journals (map named_region (take i rs)) (named_region x) i many))
     (adds_both site n _ _ was mid now first (subst (λ (r : List ℕ). Adds site n (broken_in instance n r (journal_of journals i)) mid now) name second))

@@ -4,6 +4,7 @@ use Rattle.std.proofs.lemmas.Bool.Decides.{nat_tests}
 use Rattle.std.proofs.lemmas.List.{map-append}
 use Rattle.std.specs.List.{flat_map}
 use Rattle.std.specs.Option.{option_map, option_or, option_and_then}
+use Rattle.global_defs.specs.declared.limits.TheConstants.{MOST_REGIONS}
 use Rattle.global_defs.specs.Entry.{Update, Item}
 use Rattle.journal_defs.specs.Sequence.{REGIONS, update_at, updates_from, updates_of}
 use Rattle.mupip_recover.specs.Slots.{next_after, is_at}
@@ -58,17 +59,17 @@ after_append i (x ∷ xs) ys = elim (x.position == i) as (λ b. (if b then next_
   | false ↦ refl
 ]
 
-at_region : (f : ℕ → List Item) (i next : ℕ) → i < 8 → next_after next (flat_map f (drop i REGIONS)) ≡ option_and_then (λ j. next_after j (flat_map f (drop (i + 1) REGIONS))) (next_after next (f i))
+at_region : (f : ℕ → List Item) (i next : ℕ) → i < MOST_REGIONS → next_after next (flat_map f (drop i REGIONS)) ≡ option_and_then (λ j. next_after j (flat_map f (drop (i + 1) REGIONS))) (next_after next (f i))
 at_region f i next low = ap (λ (l : List ℕ). next_after next (flat_map f l)) (from_region i low) ∙ after_append next (f i) (flat_map f (drop (i + 1) REGIONS))
 
-pub region_more : (f : ℕ → List Item) (i next n : ℕ) → i < 8 → next_after next (f i) ≡ Some n
+pub region_more : (f : ℕ → List Item) (i next n : ℕ) → i < MOST_REGIONS → next_after next (f i) ≡ Some n
     → next_after next (flat_map f (drop i REGIONS)) ≡ next_after n (flat_map f (drop (i + 1) REGIONS))
 region_more f i next n low h = at_region f i next low ∙ ap (option_and_then (λ j. next_after j (flat_map f (drop (i + 1) REGIONS)))) h
 
-pub region_fails : (f : ℕ → List Item) (i next : ℕ) → i < 8 → next_after next (f i) ≡ None → next_after next (flat_map f (drop i REGIONS)) ≡ None
+pub region_fails : (f : ℕ → List Item) (i next : ℕ) → i < MOST_REGIONS → next_after next (f i) ≡ None → next_after next (flat_map f (drop i REGIONS)) ≡ None
 region_fails f i next low h = at_region f i next low ∙ ap (option_and_then (λ j. next_after j (flat_map f (drop (i + 1) REGIONS)))) h
 
 -- the updates of one region more
-pub updates_more : (f : ℕ → List Item) (i : ℕ) → i < 8
+pub updates_more : (f : ℕ → List Item) (i : ℕ) → i < MOST_REGIONS
     → map (λ y. y.update) (flat_map f (take i REGIONS)) ++ map (λ y. y.update) (f i) ≡ map (λ y. y.update) (flat_map f (take (i + 1) REGIONS))
 updates_more f i low = sym (ap (map (λ (y : Item). y.update)) (flat_more f i low) ∙ map-append (λ (y : Item). y.update) (flat_map f (take i REGIONS)) (f i))

@@ -1,7 +1,8 @@
 -- The broken list of a region, and texts that grow by one.
 use Rattle.std.specs.Prelude.{◌≡◌, ℕ, List, ◌++◌, map}
 use Rattle.std.specs.List.{flat_map, enumerate_from}
-use Rattle.journal_defs.specs.Instance.{InstanceRecord, NamedMode}
+use Rattle.global_defs.specs.Region.{Region}
+use Rattle.journal_defs.specs.Instance.{InstanceRecord}
 use Rattle.journal_defs.specs.Sequence.{Placed}
 use Rattle.journal_defs.specs.Broken.{BrokenPart, parts_past, broken_text}
 use Rattle.jnl_record.specs.declared.placed.PlacedRecord.{PlacedRecord}
@@ -21,5 +22,5 @@ abbrev pub Adds : List ℕ → ℕ → List BrokenPart → List ℕ → List ℕ
 Adds site length more old new = (items : List BrokenPart) → old ≡ broken_text site length items → new ≡ broken_text site length (items ++ more)
 
 -- the broken list of these regions
-abbrev pub broken_of : List InstanceRecord → ℕ → List (List PlacedRecord) → List NamedMode → List BrokenPart
+abbrev pub broken_of : List InstanceRecord → ℕ → List (List PlacedRecord) → List Region → List BrokenPart
 broken_of instance length journals regions = flat_map (λ r. broken_in instance length r.1.name (journal_of journals r.0)) (enumerate_from 0 regions)

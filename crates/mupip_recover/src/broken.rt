@@ -6,11 +6,11 @@ ghost use Rattle.std.specs.List.{flat_map};
 ghost use Rattle.std.specs.Option.{option_map};
 ghost use Rattle.global_defs.specs.Extract.{field};
 ghost use Rattle.global_defs.specs.NodeText.{node_text};
+ghost use Rattle.gvn_model.specs.Regions.{named_region};
 ghost use Rattle.journal_defs.specs.Instance as instances;
 ghost use Rattle.journal_defs.specs.Broken as defs;
 ghost use Rattle.gvn_key.specs.Terms.{update_value};
 ghost use Rattle.gvn_model.specs.Items.{item_value};
-ghost use Rattle.instance_file.specs.Values as values;
 ghost use Rattle.jnl_record.specs.Values.{record_value, placed_value};
 ghost use Rattle.mupip_recover.specs.Site.{journal_of, site_records};
 ghost use Rattle.mupip_recover.specs.Cuts.{AreCuts};
@@ -23,33 +23,9 @@ use super::table::surviving_part;
 use gvn_key::terms::Update;
 use gvn_key::{Bytes, Key, NoMemory, zwr_write};
 use gvn_model::{Item, Origin};
-use instance_file::{InstanceRecord, InstanceRecords};
+use instance_file::InstanceRecords;
 use jnl_record::PlacedRecord;
 use std::alloc::Global;
-
-/// A site's name, and its regions with their modes.
-#[derive(Clone, Copy, Debug)]
-struct Site<'a> {
-    name: &'a [u8],
-    regions: &'a [(Bytes, bool)],
-}
-
-/// What a site's CREATE has, or nothing where that isn't the first record.
-fn site_of(records: &[InstanceRecord]) -> Site<'_>
-    ensures name { result.name.now ≡ instances.site_name (map values.record_value records.now) }
-    ensures regions { map values.named_mode result.regions.now ≡ instances.regions (map values.record_value records.now) }
-{
-    match records {
-        [InstanceRecord::Create { name, regions }, ..] => Site {
-            name: name.as_slice(),
-            regions: regions.as_slice(),
-        },
-        _ => Site {
-            name: &[],
-            regions: &[],
-        },
-    }
-}
 
 /// The first line: the site's name, and the number behind the length.
 fn write_header(site: &[u8], length: u64, out: &mut Bytes) -> Result<(), NoMemory>
@@ -221,7 +197,7 @@ impl Past<'_> {
     ) -> Result<(), NoMemory>
         requires { (rs : List instances.InstanceRecord) × AreCuts rs self.now.cuts.now }
         ensures { OnOk result ((rs : List instances.InstanceRecord) → AreCuts rs self.now.cuts.now
-            → Adds self.now.site.now self.now.length (broken_of rs self.now.length (map (λ j. j.items) journals.now) (map values.named_mode regions.now)) text.old text.new) }
+            → Adds self.now.site.now self.now.length (broken_of rs self.now.length (map (λ j. j.items) journals.now) (map named_region regions.now)) text.old text.new) }
     {
         for (place, (region, _before)) in regions.iter().enumerate() {
             self.add_region(place, region.as_slice(), journals, text)?;
@@ -247,13 +223,13 @@ pub fn write_broken(
     ensures err { OnErr result (out.new ≡ out.old) }
 {
     let cuts = Cuts::of(alloc, instance)?;
-    let site = site_of(instance.as_slice());
+    let site = instance.name();
     let past = Past {
         cuts: &cuts,
-        site: site.name,
+        site,
         length,
     };
     let mut text = Bytes::new(alloc);
-    past.add_regions(site.regions, journals, &mut text)?;
+    past.add_regions(instance.regions(), journals, &mut text)?;
     out.push_all(text.as_slice())
 }

@@ -10,10 +10,10 @@ ghost use Rattle.mupip_recover.specs.Table.{part_at};
 ghost use Rattle.mupip_recover.specs.Slots.{AreSlots, next_after, is_at};
 ghost use Rattle.mupip_recover.specs.Entries.{entry_in, stamped};
 
-use super::part;
 use super::part::Part;
 use super::slots::{add_copies, empty_slots, position_after, put_all, updates_in};
 use super::table::Table;
+use global_defs::limits::MOST_REGIONS;
 use gvn_key::NoMemory;
 use gvn_key::terms::Update;
 use gvn_model::{Item, Transaction, Updates};
@@ -21,7 +21,7 @@ use std::alloc::Global;
 
 /// Whether a region has a part like this one, or needs none.
 fn agrees(table: &Table, place: usize, head: &Part, region: u8) -> bool
-    requires { region < 8 }
+    requires { region < MOST_REGIONS }
     ensures { result ≡ (not (in_mask head.now.mask region) || is_like (part_value head.now) (part_at table.now place region)) }
 {
     if !head.is_in(region) {
@@ -37,7 +37,7 @@ fn agrees(table: &Table, place: usize, head: &Part, region: u8) -> bool
 fn all_agree(table: &Table, place: usize, head: &Part) -> bool
     ensures { result ≡ list_all (λ r. not (in_mask head.now.mask r) || is_like (part_value head.now) (part_at table.now place r)) REGIONS }
 {
-    for region in 0..part::REGIONS {
+    for region in 0..MOST_REGIONS {
         if !agrees(table, place, head, region) {
             return false;
         }
@@ -47,7 +47,7 @@ fn all_agree(table: &Table, place: usize, head: &Part) -> bool
 
 /// The items of a region, or none where it isn't in the mask of this part.
 fn items_of<'a>(table: &'a Table, place: usize, head: &Part, region: u8) -> &'a [Item]
-    requires { region < 8 }
+    requires { region < MOST_REGIONS }
     ensures { map item_value result.now ≡ items_at head.now.mask (part_at table.now place) region }
 {
     if !head.is_in(region) {
@@ -64,7 +64,7 @@ fn has_count(table: &Table, place: usize, head: &Part) -> bool
     ensures { result ≡ (length (items_in head.now.mask (part_at table.now place)) == head.now.count) }
 {
     let mut left = usize::from(head.count);
-    for region in 0..part::REGIONS {
+    for region in 0..MOST_REGIONS {
         let many = items_of(table, place, head, region).len();
         if many > left {
             return false;
@@ -84,7 +84,7 @@ fn slots_of(
     ensures { IfOk result (λ made. AreSlots head.now.count (items_in head.now.mask (part_at table.now place)) made.items) }
 {
     let mut slots = empty_slots(alloc, head.count)?;
-    for region in 0..part::REGIONS {
+    for region in 0..MOST_REGIONS {
         put_all(&mut slots, items_of(table, place, head, region))?;
     }
     Ok(slots)
@@ -95,7 +95,7 @@ fn are_in_order(table: &Table, place: usize, head: &Part) -> bool
     ensures { result ≡ is_at head.now.count (next_after 0 (items_in head.now.mask (part_at table.now place))) }
 {
     let mut next = 0;
-    for region in 0..part::REGIONS {
+    for region in 0..MOST_REGIONS {
         let Some(after) = position_after(next, items_of(table, place, head, region)) else {
             return false;
         };
@@ -109,7 +109,7 @@ fn copies_of(alloc: Global, table: &Table, place: usize, head: &Part) -> Result<
     ensures { IfOk result (λ made. made ≡ map (λ x. x.update) (items_in head.now.mask (part_at table.now place))) }
 {
     let mut made = Updates::with_capacity(alloc, usize::from(head.count))?;
-    for region in 0..part::REGIONS {
+    for region in 0..MOST_REGIONS {
         add_copies(&mut made, items_of(table, place, head, region))?;
     }
     Ok(made)
@@ -166,7 +166,7 @@ pub fn transaction_at(
 ) -> Result<Option<Transaction>, NoMemory>
     ensures { IfOk result (λ found. (stamp : defs.Stamp) → entry_among (part_at table.now place) stamp REGIONS ≡ option_map (stamped stamp) found) }
 {
-    for region in 0..part::REGIONS {
+    for region in 0..MOST_REGIONS {
         if let Some(found) = transaction_by(alloc, table, place, region)? {
             return Ok(Some(found));
         }

@@ -1,12 +1,10 @@
 //! What an entry does in one region.
 ghost use Rattle.std.specs.Prelude.{◌≡◌, ◌<◌, Some};
+ghost use Rattle.global_defs.specs.declared.limits.TheConstants.{MOST_REGIONS};
 ghost use Rattle.journal_defs.specs.Sequence as defs;
 ghost use Rattle.mupip_recover.specs.Parts.{part_value};
 
 use gvn_model::{Items, Origin};
-
-/// How many regions there may be.
-pub const REGIONS: u8 = 8;
 
 /// What an entry does in one region, as a TCOM record says it.
 #[derive(Clone, Copy, Debug)]
@@ -26,7 +24,7 @@ pub struct Part<'a> {
 impl Part<'_> {
     /// Whether the entry has a part in a region.
     pub fn is_in(&self, region: u8) -> bool
-        requires { region < 8 }
+        requires { region < MOST_REGIONS }
         ensures { result ≡ defs.in_mask self.now.mask region }
     {
         self.mask & (1 << region) != 0

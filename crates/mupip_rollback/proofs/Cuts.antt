@@ -3,12 +3,12 @@ use Rattle.std.proofs.Common.{◌≡◌, inl, inr, ℕ, suc, ◌+◌, ◌≤◌,
 use Rattle.std.specs.Prelude.{nat_lt}
 use Rattle.std.proofs.lemmas.Bool.Decides.{nat_tests}
 use Rattle.std.proofs.Math.Path.{fun_ext}
+use Rattle.global_defs.specs.declared.limits.TheConstants.{MOST_GENERATIONS, NUMBERS_END}
 use Rattle.disk_defs.specs.Disk.{Files}
 use Rattle.disk_defs.specs.Frames.{Only, SameOutside}
 use Rattle.global_defs.specs.Entry.{Sequence}
 use Rattle.global_defs.specs.Extract.{extract}
 use Rattle.journal_defs.specs.Broken.{broken, broken_text}
-use Rattle.journal_defs.specs.Clean.{MOST_GENERATIONS}
 use Rattle.journal_defs.specs.Fit.{IsSoundImage}
 use Rattle.journal_defs.specs.Growth.{NonePast, IsBefore, with_record}
 use Rattle.journal_defs.specs.Instance.{InstanceRecord, generation, regions, site_name}
@@ -115,7 +115,7 @@ module _ (rs : List InstanceRecord) (last : ℕ → ℕ) (journal : ℕ → List
           subst (λ (h : ℕ). IsSiteWith b (bare (cut_with broken_there (b (lost_file h)) c))) next_is
           (site_with_lost mid b broken_there c room site (subst (λ (h : ℕ). SameOutside (Only (lost_file h)) mid b) (sym next_is) same) left)
 
-      pub read_on : AreUnbegun (suc (suc (generation rs))) (length (regions rs)) a → n < 2 ^ 40 → AreRead (rs ++ next_cut rs n ∷ []) last journal b
+      pub read_on : AreUnbegun (suc (suc (generation rs))) (length (regions rs)) a → n < NUMBERS_END → AreRead (rs ++ next_cut rs n ∷ []) last journal b
       read_on none few = ahead.lost_read (rs ++ next_cut rs n ∷ []) n last (ahead.still_opened rs n last form low few) mid b journal (suc (generation rs))
           (ahead.cut_read rs n last form a mid broken_there (cut last) journal read none) (omega (arith, low)) same
 

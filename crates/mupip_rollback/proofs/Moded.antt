@@ -6,6 +6,7 @@ use Rattle.std.proofs.Math.Path.{fun_ext}
 use Rattle.std.proofs.lemmas.Bool.Decides.{nat_tests}
 use Rattle.std.proofs.lemmas.List.Elements.{filter_map-append}
 use Rattle.std.proofs.lemmas.List.Folds.{list_all-append}
+use Rattle.global_defs.specs.Region.{Region}
 use Rattle.disk_defs.specs.Disk.{Files}
 use Rattle.disk_defs.specs.Frames.{Only, SameOutside}
 use Rattle.disk_defs.specs.Gates.{records}
@@ -16,7 +17,7 @@ use Rattle.journal_defs.specs.Directory.{Pattern, pattern_in, patterns}
 use Rattle.journal_defs.specs.Epochs.{block_of, first_without}
 use Rattle.journal_defs.specs.Fit.{IsSoundImage}
 use Rattle.journal_defs.specs.Growth.{with_record}
-use Rattle.journal_defs.specs.Instance.{InstanceRecord, Create, Reigned, Cut, Map, Mode, NamedMode, generation, regions, site_name}
+use Rattle.journal_defs.specs.Instance.{InstanceRecord, Create, Reigned, Cut, Map, Mode, generation, regions, site_name}
 use Rattle.journal_defs.specs.Journal.{JournalRecord, Pini, Epoch, Pblk, Tcom, Part}
 use Rattle.journal_defs.specs.Numbers.{INSTANCE, journal_file, database_file, lost_file, broken_file}
 use Rattle.journal_defs.specs.Sequence.{Placed, Records}
@@ -69,8 +70,8 @@ module _ (region : ℕ) (before : Bool) where
 
   broken_same : (s : Records) (n : ℕ) → 1 ≤ length (regions s.instance) → broken (with_record s X) n ≡ broken s n
   broken_same s n some =
-      ap (λ (rs : List NamedMode). flat_map (λ (r : ℕ × NamedMode). map (λ (p : Part). record { region = r.1.name; part = p }) (parts_past (s.instance ++ X ∷ []) n (s.journal r.0))) (enumerate_from 0 rs)) (naming.same_regions s.instance X some)
-      ∙ ap (λ (f : ℕ × NamedMode → List BrokenPart). flat_map f (enumerate_from 0 (regions s.instance)))
+      ap (λ (rs : List Region). flat_map (λ (r : ℕ × Region). map (λ (p : Part). record { region = r.1.name; part = p }) (parts_past (s.instance ++ X ∷ []) n (s.journal r.0))) (enumerate_from 0 rs)) (naming.same_regions s.instance X some)
+      ∙ ap (λ (f : ℕ × Region → List BrokenPart). flat_map f (enumerate_from 0 (regions s.instance)))
       (fun_ext (λ r. ap (map (λ (p : Part). record { region = r.1.name; part = p })) (parts_same s.instance n (s.journal r.0))))
 
 some_record : (rs : List InstanceRecord) → 1 ≤ length (regions rs) → 0 < length rs
@@ -164,12 +165,12 @@ module _ (was now : Files) (same : SameOutside (Only INSTANCE) was now) (c : Con
         record {
           instance = subst (λ (rs : List InstanceRecord). IsInstance (now INSTANCE) (rs ++ M ∷ [])) (sym own) is;
           journals = λ r low.
-              let theirs = held.journals r (subst (λ (l : List NamedMode). r < length l) same_regions low) in (
+              let theirs = held.journals r (subst (λ (l : List Region). r < length l) same_regions low) in (
                 theirs.0,
                 subst (λ (k : ℕ). IsJournal now r k theirs.0 (s.journal r)) (sym (newest s.instance))
                     (journal_same was now r (generation s.instance) theirs.0 (s.journal r) (λ h most. old_journal h r) theirs.1),
               );
-          no_more = λ r far. held.no_more r (subst (λ (l : List NamedMode). length l ≤ r) same_regions far);
+          no_more = λ r far. held.no_more r (subst (λ (l : List Region). length l ≤ r) same_regions far);
         }
 
     sound_more : IsSoundImage now (with_record S M) c.sequence
@@ -189,7 +190,7 @@ module _ (was now : Files) (same : SameOutside (Only INSTANCE) was now) (c : Con
     site_more = site_of now (with_mode region before c) (with_record S M)
         (record {
           made = made_more c.instance;
-          mapped = subst (λ (l : List NamedMode). AllByRecursion (λ (p : Pattern). p.region < length l) (patterns (c.instance ++ M ∷ []))) (sym regions_more)
+          mapped = subst (λ (l : List Region). AllByRecursion (λ (p : Pattern). p.region < length l) (patterns (c.instance ++ M ∷ []))) (sym regions_more)
               (subst (AllByRecursion (λ (p : Pattern). p.region < length (regions c.instance))) (sym (patterns_more region before c.instance)) of.mapped);
           instance = ap (λ (rs : List InstanceRecord). rs ++ M ∷ []) of.instance;
           starts = of.starts;
@@ -215,7 +216,7 @@ module _ (was now : Files) (same : SameOutside (Only INSTANCE) was now) (c : Con
     pub none_more : (n : ℕ) → NoneNeeds n was → NoneNeeds n now
     none_more n none u held r here =
         let one : with_record S M ≡ u = records_one now (with_record S M) u (held_more S site.instance site.image.held) held in
-        let size : length (regions u.instance) ≡ length (regions S.instance) = ap (λ (x : Records). length (regions x.instance)) (sym one) ∙ ap (λ (l : List NamedMode). length l) (naming.same_regions S.instance M (some_of S site.instance)) in
+        let size : length (regions u.instance) ≡ length (regions S.instance) = ap (λ (x : Records). length (regions x.instance)) (sym one) ∙ ap (λ (l : List Region). length l) (naming.same_regions S.instance M (some_of S site.instance)) in
         subst (λ (x : Records). without_behind x n r ≡ None) one
         (ap (first_without (S.journal r)) (later.other_instance S.instance M n (S.journal r) (λ g m. refl)) ∙ none S site.image.held r (omega (arith, here, size)))
 

@@ -7,7 +7,7 @@ use Rattle.entry_index.specs.Found.{entry_count}
 use Rattle.entry_index.specs.declared.index.EntryIndex.{EntryIndex}
 use Rattle.global_defs.specs.Entry.{Sequence}
 use Rattle.global_defs.specs.Extract.{extract}
-use Rattle.journal_defs.specs.Instance.{InstanceRecord, Create, Reigned, Cut, Map, Mode, NamedMode, generation, regions, site_name}
+use Rattle.journal_defs.specs.Instance.{InstanceRecord, Create, Reigned, Cut, Map, Mode, generation, regions, site_name}
 use Rattle.journal_defs.specs.Directory.{patterns}
 use Rattle.journal_defs.specs.Sequence.{Placed, Records, IsSequence}
 use Rattle.journal_defs.specs.Stands.{AreRecords}
@@ -33,6 +33,8 @@ use Rattle.mupip_rollback.specs.declared.preparing.Prepared.{Prepared}
 use Rattle.mupip_rollback.specs.Preparing.{AreFirst, IsPrepared, KeepsFirst, cut_records}
 use Rattle.mupip_rollback.proofs.Firsts.{first_count}
 use Rattle.mupip_rollback.proofs.Founded as founded
+use Rattle.global_defs.proofs.Basics.{longer}
+use Rattle.global_defs.specs.Region.{Region}
 
 -- another record
 pub name_more : (rs : List InstanceRecord) (x : InstanceRecord) → 0 < length rs → site_name (rs ++ x ∷ []) ≡ site_name rs
@@ -43,16 +45,12 @@ name_more (Reigned r ∷ rs) x some = refl
 name_more (Map region star name ∷ rs) x some = refl
 name_more (Mode region before ∷ rs) x some = refl
 
-longer : (rs : List InstanceRecord) (x : InstanceRecord) → 0 < length (rs ++ x ∷ [])
-longer [] x = omega arith
-longer (y ∷ rs) x = omega arith
-
 pub one_more_cut : (rs : List InstanceRecord) (n m : ℕ) (k kept : Layout) → 1 ≤ length (regions rs) → kept.name ≡ k.name → kept.regions ≡ k.regions → kept.directory ≡ k.directory → kept.generation ≡ k.generation + 1
     → HasLayout (rs ++ next_cut rs n ∷ []) k → HasLayout (cut_records (cut_records rs n) m) kept
 one_more_cut rs n m k kept some name named directory newest is =
     let qs = rs ++ next_cut rs n ∷ [] in
     let here : regions qs ≡ regions rs = drawing.same_regions rs n (generation rs + 1) some in
-    let same : regions (cut_records qs m) ≡ regions qs = drawing.same_regions qs m (generation qs + 1) (subst (λ (l : List NamedMode). 1 ≤ length l) (sym here) some) in
+    let same : regions (cut_records qs m) ≡ regions qs = drawing.same_regions qs m (generation qs + 1) (subst (λ (l : List Region). 1 ≤ length l) (sym here) some) in
     let mapping : mapping_of qs ≡ mapping_of (cut_records qs m) = (let back = sym same in let maps : patterns qs ≡ patterns (cut_records qs m) = sym (patterns_same qs (next_cut qs m) refl) in λ i. record { regions = length (back i); patterns = maps i }) in
     record {
       name = name ∙ is.name ∙ sym (name_more qs (next_cut qs m) (longer rs (next_cut rs n)));

@@ -1,6 +1,7 @@
 -- A site is rolled back that was prepared for it.
 use Rattle.std.proofs.Common.{◌≡◌, inl, inr, ℕ, suc, ◌+◌, ◌≤◌, ◌<◌, ◌^◌, false, List, [], length, take, Option, Some, None, IfSome, true, refl, sym, ◌∙◌, ap, subst, arith}
 use Rattle.std.proofs.lemmas.List.{length-take-le}
+use Rattle.global_defs.specs.declared.limits.TheConstants.{NUMBERS_END}
 use Rattle.disk_defs.specs.Disk.{Files, View, Image, IsLawful, From, ReadsAfter, AtEachMoment}
 use Rattle.disk_defs.specs.Frames.{SameOutside, OthersStay}
 use Rattle.disk_defs.specs.Gates.{records}
@@ -9,10 +10,11 @@ use Rattle.disk_defs.proofs.Moments.{weaker, then_more}
 use Rattle.entry_index.specs.Found.{IsWhole, entry_count}
 use Rattle.global_defs.specs.Entry.{Sequence, state}
 use Rattle.global_defs.specs.Extract.{extract}
+use Rattle.global_defs.specs.Region.{Region}
 use Rattle.entry_index.specs.Order.{StandUpTo}
 use Rattle.journal_defs.specs.Fit.{IsSoundImage}
 use Rattle.journal_defs.specs.Growth.{with_record}
-use Rattle.journal_defs.specs.Instance.{InstanceRecord, NamedMode, generation, regions, site_name}
+use Rattle.journal_defs.specs.Instance.{InstanceRecord, generation, regions, site_name}
 use Rattle.journal_defs.specs.Numbers.{journal_file, database_file}
 use Rattle.journal_defs.specs.Sequence.{Placed, Records}
 use Rattle.journal_defs.specs.Surviving.{reigns}
@@ -71,7 +73,7 @@ module _ (v : View) (p : Prepared) (P : IsPrepared v p) where
   abbrev pub t : ℕ
   t = entry_count p.kept.entries
 
-  few : n < 2 ^ 40
+  few : n < NUMBERS_END
   few = P.has.few
 
   abbrev qs : List InstanceRecord
@@ -123,12 +125,12 @@ module _ (v : View) (p : Prepared) (P : IsPrepared v p) where
       no_older r here h low (inr (inr e)) = let fewer = P.has.form.few_regions in let room = P.has.low in omega (arith, e, here, fewer, low, room)
 
       pub regions_at : AreHeld x (length (regions is)) p.kept.globals
-      regions_at = subst (λ (l : List NamedMode). AreHeld x (length l) p.kept.globals) (sym as_many) (held_stays v x (AreSetAside rs) many p.kept.globals stays no_database P.regions_open.regions)
+      regions_at = subst (λ (l : List Region). AreHeld x (length l) p.kept.globals) (sym as_many) (held_stays v x (AreSetAside rs) many p.kept.globals stays no_database P.regions_open.regions)
 
       pub unbegun_at : IfSome x.content (λ _. (d : Files) → Image x d → AreUnbegun (suc (generation is)) (length (regions is)) d)
       unbegun_at =
           let Ahead = λ (m n : ℕ) (_ : Files). (d : Files) → Image x d → AreUnbegun m n d in
-          subst (λ (l : List NamedMode). IfSome x.content (Ahead (suc (generation is)) (length l))) (sym as_many)
+          subst (λ (l : List Region). IfSome x.content (Ahead (suc (generation is)) (length l))) (sym as_many)
           (subst (λ (h : ℕ). IfSome x.content (Ahead (suc h) many)) (sym next)
           (reads_after v.content x.content (SameOutside (AreSetAside rs)) (λ _. (d : Files) → Image v d → AreUnbegun (suc (suc (generation rs))) many d) (Ahead (suc (suc (generation rs))) many) stays.content P.ahead
           (λ a b none step d image r here. let from = stays.images d image in ap records (from.2 (journal_file (suc (suc (generation rs))) r) (no_journal r here)) ∙ none from.0 from.1 r here)))
@@ -206,7 +208,7 @@ module _ (v : View) (p : Prepared) (P : IsPrepared v p) where
           most : t ≤ length seq
           most = let low = P.most in let same = size in omega (arith, low, same)
 
-          few_so : length seq < 2 ^ 40
+          few_so : length seq < NUMBERS_END
           few_so = let low = few in let same = size in omega (arith, low, same)
 
           here : Image v files
@@ -306,7 +308,7 @@ module _ (v : View) (p : Prepared) (P : IsPrepared v p) where
                 indexed = index_cut journal rs (length seq) (generation rs + 1) p.kept.entries (take t seq) (let long = length-take-le t seq most in let low = most in omega (arith, long, low))
                     (first_index t f.entries p.kept.entries P.entries journal (reigns rs) seq g.2.indexed);
                 stand = stand_so;
-                synced = subst (λ (l : List NamedMode). AreSynced x (length l)) (sym kept_many) (λ d b i j r low. as_before b j r low ∙ sym (as_before d i r low));
+                synced = subst (λ (l : List Region). AreSynced x (length l)) (sym kept_many) (λ d b i j r low. as_before b j r low ∙ sym (as_before d i r low));
                 on = λ d image. on_chosen d S0 cut t t p.kept.globals (ap length kept_many) (patterns_same rs (next_cut rs (length seq)) refl)
                     (λ r low. (refl, cut_keeps rs t (length seq) (generation rs + 1) (journal r) most))
                     (on_same files d S0 t p.kept.globals (as_before d image) blocks);

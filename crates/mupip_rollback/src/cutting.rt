@@ -1,5 +1,7 @@
 //! Both CUTs of a rollback: of all entries, and of those that stay.
 ghost use Rattle.std.specs.Prelude.{◌≡◌, ◌<◌, ◌^◌, [], ℕ, suc, true, List, length, IfSome, IfOk, OnOk, IsErrOf, IsSome, map, false};
+ghost use Rattle.site_defs.specs.Limits.{LAST_GENERATION};
+ghost use Rattle.global_defs.specs.declared.limits.TheConstants.{NUMBERS_END};
 ghost use Rattle.disk_defs.specs.Disk.{Files, Image, From, AtEachMoment, MayFail};
 ghost use Rattle.disk_defs.specs.Frames.{OthersStay};
 ghost use Rattle.entry_index.specs.Found.{IsWhole, entry_count};
@@ -22,7 +24,7 @@ use instance_file::{Instance, InstanceLog};
 use jnl_file::Journal;
 use region_journals::{RegionJournal, RegionJournals};
 use repl_disk::Disk;
-use site_files::{cut_off, draw_next, generation_in, write_lost};
+use site_files::{cut_off, draw_next, write_lost};
 use site_store::Memory;
 use std::alloc::Global;
 
@@ -37,8 +39,8 @@ pub(crate) fn set_aside<D: Disk>(
     lost: &[u8],
 ) -> Result<Instance, RollError>
     requires form { (last : ℕ → ℕ) × MayBeOpened log.records last }
-    requires low { generation log.records < 65534 }
-    requires count { count < 2 ^ 40 }
+    requires low { generation log.records < LAST_GENERATION }
+    requires count { count < NUMBERS_END }
     requires read { IfSome (D.disk disk.old).content (λ files. (last : ℕ → ℕ) × (journal : ℕ → List Placed) × WasRead (D.disk disk.old) log.records last journal files) }
     ensures ready { IfOk result (λ made. instances.IsReady (D.disk disk.new) made) }
     ensures records { IfOk result (λ made. made.records ≡ cut_records log.records count) }
@@ -51,7 +53,7 @@ pub(crate) fn set_aside<D: Disk>(
     ensures outside { (file offset : ℕ) → IsErrOf result (RollError.NotAFile file offset) → IfSome (D.disk disk.old).content (λ _. ⊥) }
     ensures faults { MayFail (D.disk disk.old).faults (D.disk disk.new).faults (λ fault. IsErrOf result (RollError.Failed fault)) }
 {
-    let next = generation_in(log.records.as_slice()) + 1;
+    let next = log.records.generation() + 1;
     let instance = match cut_off(alloc, disk, log, count, broken) {
         Ok(instance) => instance,
         Err(error) => return Err(in_files(error)),
@@ -86,7 +88,7 @@ pub(crate) fn begin_kept<D: Disk>(
     requires ready { instances.IsReady (D.disk disk.old) instance }
     requires form { MayBeOpened instance.records (last_of kept.last_began.items) }
     requires counted { length kept.last_began.items ≡ length (regions instance.records) }
-    requires few { entry_count kept.entries < 2 ^ 40 }
+    requires few { entry_count kept.entries < NUMBERS_END }
     requires whole { IsWhole kept.entries }
     requires each_place { kept.entries.regions ≡ length (regions instance.records) }
     requires unbegun { IfSome (D.disk disk.old).content (λ _. (f : Files) → Image (D.disk disk.old) f → AreUnbegun (suc (generation instance.records)) (length (regions instance.records)) f) }

@@ -1,5 +1,7 @@
 //! What a rollback leaves, found and read before anything is written.
 ghost use Rattle.std.specs.Prelude.{◌≡◌, ◌⊎◌, ◌≤◌, ◌<◌, ◌+◌, ◌++◌, ℕ, suc, List, length, drop, min, IfOk, IfSome, OnOk, OnErr, IsErrOf};
+ghost use Rattle.site_defs.specs.Limits.{LAST_GENERATION};
+ghost use Rattle.global_defs.specs.declared.limits.TheConstants.{MOST_GENERATIONS};
 ghost use Rattle.disk_defs.specs.Disk.{Files, Image, Reads, AtEachMoment, MayFail};
 ghost use Rattle.entry_index.specs.Found.{entry_count};
 ghost use Rattle.global_defs.specs.Entry.{Sequence};
@@ -29,7 +31,7 @@ use jnl_extract::write_header;
 use mupip_recover::starts_of;
 use region_store::Regions;
 use repl_disk::Disk;
-use site_files::{created_name, see_ahead};
+use site_files::see_ahead;
 use site_store::{
     FoundFiles, Layout, SiteError, StandingSite, find_files, first_needing, stand, write_entry,
 };
@@ -70,8 +72,8 @@ fn find<D: Disk>(alloc: Global, disk: &mut D, to: u64) -> Result<FoundFiles, Rol
     ensures lowest { IfOk result (λ found. found.read.lowest ≡ to) }
     ensures found { IfOk result (WasFound (D.disk disk.old) (D.disk disk.new)) }
     ensures ahead { IfOk result (λ f. IfSome (D.disk disk.old).content (λ _. (d : Files) → Image (D.disk disk.new) d → AreUnbegun (suc (suc (generation f.read.log.records))) (length (regions f.read.log.records)) d)) }
-    ensures limit { IsErrOf result RollError.GenLimit → IfSome (D.disk disk.old).content (λ files. (rs : List defs.InstanceRecord) → IsInstance (files INSTANCE) rs → 65534 ≤ generation rs) }
-    ensures limit_told { IsErrOf result RollError.GenLimit → IfSome (D.disk disk.old).content (λ files. (rs : List defs.InstanceRecord) × IsInstance (files INSTANCE) rs × (65534 ≤ generation rs)) }
+    ensures limit { IsErrOf result RollError.GenLimit → IfSome (D.disk disk.old).content (λ files. (rs : List defs.InstanceRecord) → IsInstance (files INSTANCE) rs → LAST_GENERATION ≤ generation rs) }
+    ensures limit_told { IsErrOf result RollError.GenLimit → IfSome (D.disk disk.old).content (λ files. (rs : List defs.InstanceRecord) × IsInstance (files INSTANCE) rs × (LAST_GENERATION ≤ generation rs)) }
     ensures place { (file offset : ℕ) → IsErrOf result (RollError.NotAFile file offset) → IfSome (D.disk disk.old).content (λ files. IsOutsideSite files file offset ⊎ IsBegunAhead files file offset) }
     ensures outside { (file offset : ℕ) → IsErrOf result (RollError.NotAFile file offset) → IfSome (D.disk disk.old).content (λ files. (c : Contents) → IsSite files c → ⊥) }
     ensures without { (region generation : ℕ) → IsErrOf result (RollError.NoBeforeImage region generation) → ⊥ }
@@ -85,8 +87,7 @@ fn find<D: Disk>(alloc: Global, disk: &mut D, to: u64) -> Result<FoundFiles, Rol
         Ok(found) => found,
         Err(error) => return Err(in_site(error)),
     };
-    let records = found.read.log.records.as_slice();
-    match see_ahead(alloc, disk, records, &found.read.directory) {
+    match see_ahead(alloc, disk, &found.read.log.records, &found.read.directory) {
         Ok(()) => Ok(found),
         Err(error) => Err(in_files(error)),
     }
@@ -156,7 +157,7 @@ fn extract_lost<D: Disk>(
     ensures faults { MayFail (D.disk disk.old).faults (D.disk disk.new).faults (λ fault. IsErrOf result (RollError.Failed fault)) }
 {
     let mut text = Bytes::new(alloc);
-    let name = created_name(found.read.log.records.as_slice());
+    let name = found.read.log.records.name();
     write_header(name, target + 1, &mut text)?;
     let starts = starts_of(alloc, found.read.log.history.as_slice())?;
     match write_behind(disk, found, &starts, target, &mut text) {
@@ -167,7 +168,7 @@ fn extract_lost<D: Disk>(
 
 /// A standing site with its first so many entries, where two generations are to be drawn.
 fn keep_first(standing: StandingSite, target: u64, lost: Bytes) -> Prepared
-    requires low { standing.layout.generation < 65535 }
+    requires low { standing.layout.generation < MOST_GENERATIONS }
     ensures log { result.log ≡ standing.log }
     ensures length { result.length ≡ entry_count standing.entries }
     ensures broken { result.broken ≡ standing.broken }
@@ -242,9 +243,9 @@ pub(crate) fn prepare<D: Disk>(alloc: Global, disk: &mut D, to: u64) -> Result<P
     ensures kept { IfOk result (λ p. entry_count p.kept.entries ≡ min to p.length) }
     ensures site { IfOk result (λ p. IfSome (D.disk disk.old).content (λ files. (c : Contents) → IsSite files c → (p.length ≡ length c.sequence) × (EachStands (D.disk disk.old) → (f : Files) → Image (D.disk disk.new) f → IsSite f c))) }
     ensures left { IfOk result (λ p. IfSome (D.disk disk.old).content (λ files. (c : Contents) (left : Leftover) → IsSite files c → HasLeft files c left → left.broken ≡ p.broken)) }
-    ensures limit { IsErrOf result RollError.GenLimit → IfSome (D.disk disk.old).content (λ files. (rs : List defs.InstanceRecord) → IsInstance (files INSTANCE) rs → 65534 ≤ generation rs) }
-    ensures limit_told { IsErrOf result RollError.GenLimit → IfSome (D.disk disk.old).content (λ files. (rs : List defs.InstanceRecord) × IsInstance (files INSTANCE) rs × (65534 ≤ generation rs)) }
-    ensures without { (region g : ℕ) → IsErrOf result (RollError.NoBeforeImage region g) → IfSome (D.disk disk.old).content (λ files. (u : Records) × (seq : Sequence) × AreRecords files u × IsSequence u seq × (generation u.instance < 65534) × IsFirstWithout u (min to (length seq)) region g) }
+    ensures limit { IsErrOf result RollError.GenLimit → IfSome (D.disk disk.old).content (λ files. (rs : List defs.InstanceRecord) → IsInstance (files INSTANCE) rs → LAST_GENERATION ≤ generation rs) }
+    ensures limit_told { IsErrOf result RollError.GenLimit → IfSome (D.disk disk.old).content (λ files. (rs : List defs.InstanceRecord) × IsInstance (files INSTANCE) rs × (LAST_GENERATION ≤ generation rs)) }
+    ensures without { (region g : ℕ) → IsErrOf result (RollError.NoBeforeImage region g) → IfSome (D.disk disk.old).content (λ files. (u : Records) × (seq : Sequence) × AreRecords files u × IsSequence u seq × (generation u.instance < LAST_GENERATION) × IsFirstWithout u (min to (length seq)) region g) }
     ensures no_forward { (region : ℕ) → IsErrOf result (RollError.NeedForward region) → ⊥ }
     ensures place { (file offset : ℕ) → IsErrOf result (RollError.NotAFile file offset) → IfSome (D.disk disk.old).content (λ files. IsOutsideRollback to files file offset) }
     ensures outside { (file offset : ℕ) → IsErrOf result (RollError.NotAFile file offset) → IfSome (D.disk disk.old).content (λ files. (c : Contents) → IsSite files c → ⊥) }

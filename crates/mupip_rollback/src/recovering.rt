@@ -1,5 +1,6 @@
 //! Recovering a site backward, and forward.
 ghost use Rattle.std.specs.Prelude.{◌≡◌, ◌⊎◌, ◌≤◌, ◌<◌, ℕ, true, List, length, IfOk, IfSome, OnErr, IsErrOf, IsSome};
+ghost use Rattle.site_defs.specs.Limits.{LAST_GENERATION};
 ghost use Rattle.disk_defs.specs.Disk.{AtEachMoment, MayFail};
 ghost use Rattle.global_defs.specs.Entry.{Sequence};
 ghost use Rattle.journal_defs.specs.Instance as defs;
@@ -57,9 +58,9 @@ pub fn recover_backward<D: Disk>(alloc: Global, disk: &mut D) -> Result<u64, Rol
     ensures read { IfOk result (λ n. (c : Contents) × (n ≡ length c.sequence)) }
     ensures told { IfOk result (λ _. IfSome (D.disk disk.old).content (λ files. (c : Contents) (left : Leftover) → IsSite files c → HasLeft files c left → EachStands (D.disk disk.old) → StandsFor (D.disk disk.new) (marked (opened left.broken c)))) }
     // whether the files are a fit site's or not
-    ensures held { IfOk result (λ n. IfSome (D.disk disk.old).content (λ files. (u : Records) × (seq : Sequence) × AreRecords files u × IsSequence u seq × (n ≡ length seq) × (generation u.instance < 65534) × NoneIsWithout u (length seq))) }
-    ensures limit { IsErrOf result RollError.GenLimit → IfSome (D.disk disk.old).content (λ files. (rs : List defs.InstanceRecord) → IsInstance (files INSTANCE) rs → 65534 ≤ generation rs) }
-    ensures limit_told { IsErrOf result RollError.GenLimit → IfSome (D.disk disk.old).content (λ files. (rs : List defs.InstanceRecord) × IsInstance (files INSTANCE) rs × (65534 ≤ generation rs)) }
+    ensures held { IfOk result (λ n. IfSome (D.disk disk.old).content (λ files. (u : Records) × (seq : Sequence) × AreRecords files u × IsSequence u seq × (n ≡ length seq) × (generation u.instance < LAST_GENERATION) × NoneIsWithout u (length seq))) }
+    ensures limit { IsErrOf result RollError.GenLimit → IfSome (D.disk disk.old).content (λ files. (rs : List defs.InstanceRecord) → IsInstance (files INSTANCE) rs → LAST_GENERATION ≤ generation rs) }
+    ensures limit_told { IsErrOf result RollError.GenLimit → IfSome (D.disk disk.old).content (λ files. (rs : List defs.InstanceRecord) × IsInstance (files INSTANCE) rs × (LAST_GENERATION ≤ generation rs)) }
     ensures needs { (region : ℕ) → IsErrOf result (RollError.NeedForward region) → IfSome (D.disk disk.old).content (λ files. HaveFirstWithout files region) }
     ensures untouched { (region : ℕ) → IsErrOf result (RollError.NeedForward region) → IsUnwritten (D.disk disk.old) (D.disk disk.new) }
     ensures unwritten { IsErrOf result RollError.GenLimit → IsUnwritten (D.disk disk.old) (D.disk disk.new) }
@@ -94,9 +95,9 @@ pub fn recover_forward<D: Disk>(alloc: Global, disk: &mut D) -> Result<u64, Roll
     ensures read { IfOk result (λ n. (c : Contents) × (n ≡ length c.sequence)) }
     ensures told { IfOk result (λ _. IfSome (D.disk disk.old).content (λ files. (c : Contents) (left : Leftover) → IsSite files c → HasLeft files c left → EachStands (D.disk disk.old) → StandsFor (D.disk disk.new) (recovered_as true left.broken c))) }
     // whether the files are a fit site's or not
-    ensures held { IfOk result (λ n. IfSome (D.disk disk.old).content (λ files. (u : Records) × (seq : Sequence) × AreRecords files u × IsSequence u seq × (n ≡ length seq) × (generation u.instance < 65534))) }
-    ensures limit { IsErrOf result RollError.GenLimit → IfSome (D.disk disk.old).content (λ files. (rs : List defs.InstanceRecord) → IsInstance (files INSTANCE) rs → 65534 ≤ generation rs) }
-    ensures limit_told { IsErrOf result RollError.GenLimit → IfSome (D.disk disk.old).content (λ files. (rs : List defs.InstanceRecord) × IsInstance (files INSTANCE) rs × (65534 ≤ generation rs)) }
+    ensures held { IfOk result (λ n. IfSome (D.disk disk.old).content (λ files. (u : Records) × (seq : Sequence) × AreRecords files u × IsSequence u seq × (n ≡ length seq) × (generation u.instance < LAST_GENERATION))) }
+    ensures limit { IsErrOf result RollError.GenLimit → IfSome (D.disk disk.old).content (λ files. (rs : List defs.InstanceRecord) → IsInstance (files INSTANCE) rs → LAST_GENERATION ≤ generation rs) }
+    ensures limit_told { IsErrOf result RollError.GenLimit → IfSome (D.disk disk.old).content (λ files. (rs : List defs.InstanceRecord) × IsInstance (files INSTANCE) rs × (LAST_GENERATION ≤ generation rs)) }
     ensures unwritten { IsErrOf result RollError.GenLimit → IsUnwritten (D.disk disk.old) (D.disk disk.new) }
     ensures without { (region generation : ℕ) → IsErrOf result (RollError.NoBeforeImage region generation) → ⊥ }
     ensures no_forward { (region : ℕ) → IsErrOf result (RollError.NeedForward region) → ⊥ }

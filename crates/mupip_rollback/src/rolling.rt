@@ -1,5 +1,6 @@
 //! Rolling a site back.
 ghost use Rattle.std.specs.Prelude.{◌≡◌, ◌≤◌, ◌<◌, ◌+◌, ℕ, List, length, min, IfOk, IfSome, OnOk, IsErrOf, IsSome};
+ghost use Rattle.site_defs.specs.Limits.{LAST_GENERATION};
 ghost use Rattle.disk_defs.specs.Disk.{Files, Image, AtEachMoment, MayFail};
 ghost use Rattle.entry_index.specs.Found.{entry_count};
 ghost use Rattle.global_defs.specs.Entry.{Sequence};
@@ -22,7 +23,6 @@ use super::cutting::{begin_kept, set_aside};
 use super::error::{RollError, in_site};
 use super::preparing::{Prepared, prepare};
 use repl_disk::Disk;
-use site_files::generation_in;
 use std::alloc::Global;
 
 /// What a rollback left.
@@ -76,11 +76,11 @@ pub fn rollback<D: Disk>(alloc: Global, disk: &mut D, to: u64) -> Result<Rolled,
     ensures read { IfOk result (λ rolled. (c : Contents) × (rolled.kept ≡ min to (length c.sequence)) × (rolled.lost ≡ generation c.instance + 1)) }
     ensures told { IfOk result (λ _. IfSome (D.disk disk.old).content (λ files. (c : Contents) (left : Leftover) → IsSite files c → HasLeft files c left → EachStands (D.disk disk.old) → StandsFor (D.disk disk.new) (rolled (min to (length c.sequence)) left.broken c))) }
     // whether the files are a fit site's or not
-    ensures held { IfOk result (λ rolled. IfSome (D.disk disk.old).content (λ files. (u : Records) × (seq : Sequence) × AreRecords files u × IsSequence u seq × (rolled.kept ≡ min to (length seq)) × (rolled.lost ≡ generation u.instance + 1) × (generation u.instance < 65534) × NoneIsWithout u (min to (length seq)))) }
-    ensures limit { IsErrOf result RollError.GenLimit → IfSome (D.disk disk.old).content (λ files. (rs : List defs.InstanceRecord) → IsInstance (files INSTANCE) rs → 65534 ≤ generation rs) }
-    ensures limit_told { IsErrOf result RollError.GenLimit → IfSome (D.disk disk.old).content (λ files. (rs : List defs.InstanceRecord) × IsInstance (files INSTANCE) rs × (65534 ≤ generation rs)) }
+    ensures held { IfOk result (λ rolled. IfSome (D.disk disk.old).content (λ files. (u : Records) × (seq : Sequence) × AreRecords files u × IsSequence u seq × (rolled.kept ≡ min to (length seq)) × (rolled.lost ≡ generation u.instance + 1) × (generation u.instance < LAST_GENERATION) × NoneIsWithout u (min to (length seq)))) }
+    ensures limit { IsErrOf result RollError.GenLimit → IfSome (D.disk disk.old).content (λ files. (rs : List defs.InstanceRecord) → IsInstance (files INSTANCE) rs → LAST_GENERATION ≤ generation rs) }
+    ensures limit_told { IsErrOf result RollError.GenLimit → IfSome (D.disk disk.old).content (λ files. (rs : List defs.InstanceRecord) × IsInstance (files INSTANCE) rs × (LAST_GENERATION ≤ generation rs)) }
     ensures unwritten { IsErrOf result RollError.GenLimit → IsUnwritten (D.disk disk.old) (D.disk disk.new) }
-    ensures without { (region g : ℕ) → IsErrOf result (RollError.NoBeforeImage region g) → IfSome (D.disk disk.old).content (λ files. (u : Records) × (seq : Sequence) × AreRecords files u × IsSequence u seq × (generation u.instance < 65534) × IsFirstWithout u (min to (length seq)) region g) }
+    ensures without { (region g : ℕ) → IsErrOf result (RollError.NoBeforeImage region g) → IfSome (D.disk disk.old).content (λ files. (u : Records) × (seq : Sequence) × AreRecords files u × IsSequence u seq × (generation u.instance < LAST_GENERATION) × IsFirstWithout u (min to (length seq)) region g) }
     ensures untouched { (region generation : ℕ) → IsErrOf result (RollError.NoBeforeImage region generation) → IsUnwritten (D.disk disk.old) (D.disk disk.new) }
     ensures no_forward { (region : ℕ) → IsErrOf result (RollError.NeedForward region) → ⊥ }
     ensures place { (file offset : ℕ) → IsErrOf result (RollError.NotAFile file offset) → IfSome (D.disk disk.old).content (λ files. IsOutsideRollback to files file offset) }
@@ -97,7 +97,7 @@ pub fn rollback<D: Disk>(alloc: Global, disk: &mut D, to: u64) -> Result<Rolled,
     let prepared = prepare(alloc, disk, to)?;
     let rolled = Rolled {
         kept: prepared.kept.entries.len(),
-        lost: generation_in(prepared.log.records.as_slice()) + 1,
+        lost: prepared.log.records.generation() + 1,
     };
     roll(alloc, disk, prepared)?;
     Ok(rolled)

@@ -1,9 +1,9 @@
 //! Setting the mode of a region.
-ghost use Rattle.std.specs.Prelude.{◌≡◌, ◌⊎◌, ◌↔◌, ◌≤◌, ◌<◌, ◌++◌, ◌∷◌, [], ℕ, length, map, IfSome, OnOk, OnErr, IsErrOf, IsSome, IsTrue};
+ghost use Rattle.std.specs.Prelude.{◌≡◌, ◌⊎◌, ◌≤◌, ◌<◌, ◌++◌, ◌∷◌, [], ℕ, length, IfSome, OnOk, OnErr, IsErrOf, IsSome};
+ghost use Rattle.global_defs.specs.declared.limits.TheConstants.{MOST_REGIONS};
 ghost use Rattle.disk_defs.specs.Disk.{Files, Image, IsDurable, AtEachMoment, MayFail};
 ghost use Rattle.disk_defs.specs.Frames.{Only, OnlyOn, OthersStay};
 ghost use Rattle.instance_file.specs.Instance.{StandsWith};
-ghost use Rattle.instance_file.specs.Values.{record_value};
 ghost use Rattle.journal_defs.specs.Instance as defs;
 ghost use Rattle.journal_defs.specs.Instance.{regions};
 ghost use Rattle.journal_defs.specs.Numbers.{INSTANCE};
@@ -15,20 +15,10 @@ ghost use Rattle.site_defs.specs.Stands.{IsSite, HasLeft};
 ghost use Rattle.mupip_rollback.specs.Setting.{MayHaveMode, MayBeSet, MayBeSetWith, IsSetIn, StillNoneNeeds, HasNoRegion};
 
 use super::error::{RollError, in_files};
-use instance_file::{Instance, InstanceLog, InstanceRecord};
+use instance_file::{Instance, InstanceLog};
 use repl_disk::Disk;
 use site_files::{in_instance, read_instance};
 use std::alloc::Global;
-
-/// Whether these records are those of a site with such a region.
-fn has_region(records: &[InstanceRecord], region: u8) -> bool
-    ensures { IsTrue result ↔ (region < length (regions (map record_value records.now))) }
-{
-    match records {
-        [InstanceRecord::Create { regions, .. }, ..] => usize::from(region) < regions.len(),
-        _ => false,
-    }
-}
 
 /// Opens the instance file that was read, and appends the MODE.
 fn append_mode<D: Disk>(
@@ -39,7 +29,7 @@ fn append_mode<D: Disk>(
     before: bool,
 ) -> Result<(), RollError>
     requires region { region < length (regions log.records) }
-    requires few { region < 8 }
+    requires few { region < MOST_REGIONS }
     requires stands { IfSome (D.disk disk.old).content (λ files. IsInstance (files INSTANCE) log.records) }
     requires durable { IfSome (D.disk disk.old).content (λ files. IsDurable (D.disk disk.old) INSTANCE (files INSTANCE)) }
     ensures reads { OnOk result (IfSome (D.disk disk.old).content (λ _. IfSome (D.disk disk.new).content (λ now. IsInstance (now INSTANCE) (log.records ++ defs.Mode region before ∷ [])))) }
@@ -92,7 +82,8 @@ pub fn set_mode<D: Disk>(
         Ok(log) => log,
         Err(error) => return Err(in_files(error)),
     };
-    if !has_region(log.records.as_slice(), region) {
+    let has_region = usize::from(region) < log.records.region_count();
+    if !has_region {
         return Err(RollError::NotAFile { file: 0, offset: 0 });
     }
     append_mode(alloc, disk, log, region, before)
@@ -112,7 +103,7 @@ pub fn set_mode_logged<D: Disk>(
     before: bool,
 ) -> Result<(), RollError>
     requires region { region < length (regions log.records) }
-    requires few { length (regions log.records) ≤ 8 }
+    requires few { length (regions log.records) ≤ MOST_REGIONS }
     requires told { IfSome (D.disk disk.old).content (λ files. IsInstance (files INSTANCE) log.records) }
     requires durable { IfSome (D.disk disk.old).content (λ files. IsDurable (D.disk disk.old) INSTANCE (files INSTANCE)) }
     ensures reads { OnOk result (IfSome (D.disk disk.old).content (λ files. (c : Contents) (left : Leftover) → IsSite files c → HasLeft files c left → IfSome (D.disk disk.new).content (λ now. IsSite now (with_mode region before c) × HasLeft now (with_mode region before c) left × StillNoneNeeds files now))) }

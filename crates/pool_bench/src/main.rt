@@ -5,6 +5,7 @@
 #![tactic(auto)]
 
 ghost use Rattle.std.specs.Prelude.{◌≡◌, ◌+◌, ◌^◌, ◌<◌, ◌≤◌, IfOk};
+ghost use Rattle.global_defs.specs.declared.limits.TheConstants.{NUMBERS_END};
 ghost use Rattle.jnl_pool.specs.Pooling.{next_number};
 
 use anyhow::{Context, Result, ensure};
@@ -51,7 +52,7 @@ fn put_all(
     count: u64,
 ) -> (Writer, io::Result<Duration>)
     requires pool { writer.table ≡ pool.now.table }
-    requires room { next_number writer + count < 2 ^ 40 }
+    requires room { next_number writer + count < NUMBERS_END }
     ensures { result.0.table ≡ pool.now.table }
 {
     let mut writer = writer;
@@ -103,12 +104,12 @@ fn measure<R: Threads + Clock + Print + Eprint + Sync>(
     count: u64,
 ) -> Result<()>
     requires pool { (writer.table ≡ pool.now.table) × (reader.table ≡ pool.now.table) }
-    requires room { next_number writer + count < 2 ^ 40 }
+    requires room { next_number writer + count < NUMBERS_END }
 {
     let ((mut writer, put_took), (reader, readings)) = join(
         rt,
         move || -> (Writer, io::Result<Duration>)
-            requires { (writer.table ≡ pool.now.table) × (next_number writer + count < 2 ^ 40) }
+            requires { (writer.table ≡ pool.now.table) × (next_number writer + count < NUMBERS_END) }
             ensures { result.0.table ≡ pool.entry.now.table }
         { put_all(rt, pool, writer, count) },
         move || -> (Reader, Readings)

@@ -1,5 +1,6 @@
 //! The table and its seats: the writer's three kinds of step, a reader's three loads, and how seats are split and joined.
 ghost use Rattle.std.specs.Prelude.{◌≡◌, ℕ, ◌+◌, ◌*◌, ◌^◌, ◌<◌, ◌≤◌, List, [], ◌∷◌, ◌++◌, length, IfOk, true, false, ◌⊎◌, slice_index, max};
+ghost use Rattle.global_defs.specs.declared.limits.TheConstants.{NUMBERS_END};
 ghost use Rattle.wire_defs.specs.PoolWords.{words_from, AreBytes, StartsWith, IsBoundary, IsAt};
 ghost use Rattle.pool_rule.specs.Rule.{writer, reader, Agrees, Each, IsEntryBelow, Within, end_of, is_entry, moved, number_at};
 
@@ -74,7 +75,7 @@ impl PoolTable {
     /// A pool of `words` data words whose first entry has the number `first`, and the writer's seat. All its words are 0.
     pub fn new(alloc: Global, words: u32, first: u64) -> Result<(PoolTable, WriterSeat), NoMemory>
         requires words { (16 ≤ words) × (words ≤ 1048576) }
-        requires first { (1 ≤ first) × (first ≤ 2 ^ 40) }
+        requires first { (1 ≤ first) × (first ≤ NUMBERS_END) }
         ensures table { IfOk result (λ r. (r.0.size ≡ words) × (r.0.first ≡ first)) }
         ensures seat { IfOk result (λ r. (r.1.table ≡ r.0.table) × (r.1.view ≡ writer words first)) }
     {
@@ -103,7 +104,7 @@ impl PoolTable {
     /// the entry's words, and answers the new count.
     pub fn claim(&self, w: &mut WriterSeat, bytes: &[u8]) -> u64
         requires table { w.old.table ≡ self.now.table }
-        requires number { w.old.view.first + length w.old.view.entries < 2 ^ 40 }
+        requires number { w.old.view.first + length w.old.view.entries < NUMBERS_END }
         requires bytes { length bytes.now ≤ 1048576 }
         ensures table { w.new.table ≡ w.old.table }
         ensures view { w.new.view ≡ record w.old.view { entries = w.old.view.entries ++ bytes.now ∷ [] } }

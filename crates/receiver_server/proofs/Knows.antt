@@ -4,16 +4,12 @@ use Rattle.std.specs.List.{AllByRecursion, last_or}
 use Rattle.std.proofs.lemmas.Bool.Decides.{nat_tests}
 use Rattle.global_defs.specs.Entry.{Transaction, Reign}
 use Rattle.global_defs.specs.Fields.{IsReign}
-use Rattle.lineage_defs.specs.Histories.{begun_by}
+use Rattle.global_defs.specs.Rising.{begun_by}
 use Rattle.wire_defs.specs.Frames.{Entry, IsFrame}
 use Rattle.ship_defs.specs.Arrivals.{IsArrival}
 use Rattle.ship_defs.specs.Hearing as ship
 use Rattle.ship_defs.specs.Hearing.{Heard, Last, IsUnder, MayReign}
 use Rattle.receiver_server.specs.Hearings.{reign_behind, IsLast, IsHeard, MayCome}
-
-pub last_push : (o : Option Reign) (xs : List Reign) (y : Reign) → last_or o (xs ++ y ∷ []) ≡ Some y
-last_push o [] y = refl
-last_push o (x ∷ xs) y = last_push (Some x) xs y
 
 -- the reigns that have begun, with one more
 

@@ -15,6 +15,7 @@ use Rattle.receiver_server.specs.declared.step.HearError.TheVariants.{Cut, BadFr
 use Rattle.receiver_server.specs.declared.step.Step.{Step}
 use Rattle.receiver_server.specs.declared.step.Step.TheVariants.{Received, Answered, Heard as HeardOne, Waits, Over, Ended}
 use Rattle.receiver_server.specs.Listenings.{Listening, listening, told_last, HasTail, IsHearing, HasHeard, HasPut, IsUnfitBehind, Hears, StepTells}
+use Rattle.wire_defs.proofs.Resumed.{resume_form}
 
 admitted_push : {S : Type 0} (A : S → Frame → S → Type 0) (s : S) (fs : List Frame) (h now : S) (f : Frame) → Admitted A s fs h → A h f now → Admitted A s (fs ++ f ∷ []) now
 admitted_push A s [] h now f m may = (now, subst (λ t. A t f now) m may, refl)
@@ -309,11 +310,8 @@ module _ (begun : Heard) (s : Listening) (received : List ℕ) (put : List Arriv
   pulled (Err (BadFrame offset)) i piece now p is = absurd p
   pulled (Err NoMemory) i piece now p is = subst (λ (x : Incoming). pulled_in now x) (sym p) (subst (λ (l : List ℕ). pulled_in l (with_piece s.incoming piece)) (sym is) (pieced begun s received put frames none good h piece))
 
-resume : IsFrame (Resume 1)
-resume = record { fields = (omega arith, omega arith); short = omega arith }
-
 pub begins_empty : BeginsFrame []
-begins_empty = (Resume 1, frame_type (Resume 1), _, resume, refl)
+begins_empty = (Resume 1, frame_type (Resume 1), _, resume_form, refl)
 
 pub begins_hearing : (p : Purpose) (begun : Heard) → reign_behind begun.last ≡ None → IsHearing begun (listening p begun) [] [] []
 begins_hearing p begun none = record {

@@ -1,5 +1,6 @@
 -- What a Receiver Server knows of its secondary.
 use Rattle.std.specs.Prelude.{◌≡◌, ◌+◌, ◌<◌, ◌≤◌, ◌^◌, Option, Some, None}
+use Rattle.global_defs.specs.declared.limits.TheConstants.{NUMBERS_END}
 use Rattle.global_defs.specs.Entry as defs
 use Rattle.global_defs.specs.Fields.{IsReign}
 use Rattle.gvn_model.specs.Reigns.{reign_value}
@@ -58,6 +59,6 @@ IsLast h ship.Over = Unit {0}
 
 -- What holds on a connection of a secondary with a history of its form: its last reign has begun.
 pub record IsHeard (h : ship.Heard) : Type 0 where
-  pub few : h.count < 2 ^ 40
+  pub few : h.count < NUMBERS_END
   pub reign : (r : defs.Reign) → h.reign ≡ Some r → IsReign r × (r.start ≤ h.count)
   pub last : IsLast h h.last

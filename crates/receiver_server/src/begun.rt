@@ -2,8 +2,8 @@
 ghost use Rattle.std.specs.Prelude.{◌≡◌, ◌↔◌, ◌≤◌, None, IsTrue, length, map, option_map, IfSome};
 ghost use Rattle.std.specs.List.{AllByRecursion, last_or};
 ghost use Rattle.global_defs.specs.Fields.{IsReign};
+ghost use Rattle.global_defs.specs.Rising.{begun_by};
 ghost use Rattle.gvn_model.specs.Reigns.{reign_value};
-ghost use Rattle.lineage_defs.specs.Histories.{begun_by};
 
 use gvn_model::Reign;
 

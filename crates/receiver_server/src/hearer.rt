@@ -1,6 +1,7 @@
 // Which frames fit, and what arrives with them.
 ghost use Rattle.std.specs.Prelude.{◌≡◌, ◌⊎◌, ◌↔◌, ◌+◌, ◌<◌, ◌≤◌, ◌^◌, [], ◌∷◌, Some, None, IsTrue, map, option_map, option_to_list, IfOk, IfSome};
 ghost use Rattle.std.specs.List.{AllByRecursion};
+ghost use Rattle.global_defs.specs.declared.limits.TheConstants.{NUMBERS_END};
 ghost use Rattle.global_defs.specs.Fields.{IsReign, IsNumber, IsTransaction};
 ghost use Rattle.gvn_model.specs.Reigns.{reign_value};
 ghost use Rattle.gvn_model.specs.Entries.{history_value, transaction_value};
@@ -14,6 +15,7 @@ ghost use Rattle.ship_defs.specs.Arrivals.{IsArrival, arrived};
 ghost use Rattle.receiver_server.specs.Hearings.{purpose_value, reign_behind, IsHeard, MayCome, behind};
 
 use super::begun::{begun, is_same};
+use global_defs::limits::MOST_REIGNS;
 use gvn_key::NoMemory;
 use gvn_model::{History, Reign};
 use recv_pool::Arrived;
@@ -40,9 +42,6 @@ pub(crate) enum Last {
     Over,
 }
 
-// How many reigns a sequence may have.
-const MOST_REIGNS: usize = 32_768;
-
 // What a secondary has, with all that it was sent.
 #[derive(Drop)]
 pub(crate) struct Hearer {
@@ -68,7 +67,7 @@ impl Model for Hearer {
 impl Hearer {
     // Before the first byte, of a secondary with that history.
     pub(crate) fn new(mine: &History) -> Result<Hearer, NoMemory>
-        requires few { mine.now.length < 2 ^ 40 }
+        requires few { mine.now.length < NUMBERS_END }
         requires form { AllByRecursion IsReign (history_value mine.now).reigns }
         ensures { IfOk result (λ h. h ≡ unbegun (history_value mine.now)) }
     {
@@ -166,7 +165,7 @@ impl Hearer {
     // With the next entry.
     fn enter(&mut self)
         requires under { ship.IsUnder self.old.last }
-        requires few { self.old.count + 1 < 2 ^ 40 }
+        requires few { self.old.count + 1 < NUMBERS_END }
         ensures entered { self.new ≡ ship.entered self.old self.old.last }
         ensures knew { IsHeard self.old }
     {

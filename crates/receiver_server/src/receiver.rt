@@ -1,6 +1,7 @@
 // The Receiver Server.
 ghost use Rattle.std.specs.Prelude.{◌≡◌, ◌≢◌, ◌↔◌, ◌+◌, ◌<◌, ◌≤◌, ◌^◌, ◌||◌, ℕ, List, [], ◌∷◌, length, false, IsTrue, IfOk, IfErr, OnOk, OnErr, IsErrOf};
 ghost use Rattle.std.specs.List.{AllByRecursion};
+ghost use Rattle.global_defs.specs.declared.limits.TheConstants.{NUMBERS_END};
 ghost use Rattle.global_defs.specs.Fields.{IsReign};
 ghost use Rattle.global_defs.specs.Prefix.{IsPrefix};
 ghost use Rattle.gvn_model.specs.Entries.{history_value};
@@ -59,7 +60,7 @@ fn step_of(frame: &Frame) -> Step
 impl Receiver {
     /// Before the first byte, for a secondary with that history.
     pub fn new(alloc: Global, mine: &History, purpose: Purpose) -> Result<Receiver, NoMemory>
-        requires few { mine.now.length < 2 ^ 40 }
+        requires few { mine.now.length < NUMBERS_END }
         requires form { AllByRecursion IsReign (history_value mine.now).reigns }
         ensures is { IfOk result (λ r. r ≡ listening (purpose_value purpose) (unbegun (history_value mine.now))) }
         ensures hears { IfOk result (λ r. IsHearing (unbegun (history_value mine.now)) r [] [] []) }

@@ -5,6 +5,7 @@ use Rattle.std.proofs.Math.Path.{fun_ext}
 use Rattle.std.proofs.lemmas.Bool.{cases_lt}
 use Rattle.std.proofs.lemmas.Bool.Decides.{nat_tests}
 use Rattle.std.proofs.lemmas.Option.{slice_get-map}
+use Rattle.global_defs.specs.declared.limits.TheConstants.{MOST_REGIONS}
 use Rattle.disk_defs.specs.Disk.{Files, View, Image, IsLawful, IsDurable, AtEachMoment}
 use Rattle.disk_defs.specs.Frames.{SameOutside, OnlyIn, OthersStay}
 use Rattle.disk_defs.proofs.Frames.{durable_stays, others_then}
@@ -157,7 +158,7 @@ module _ (u v w : View) (closing : Bool) (s : Records) (seq : Sequence) (g : ℕ
     as_many_then : length ls ≡ length (regions s.instance)
     as_many_then = count_then ∙ as_many
 
-    few : length (regions s.instance) ≤ 8
+    few : length (regions s.instance) ≤ MOST_REGIONS
     few = let few = k.ready.few in let many = k.as_many_journals in omega (arith, few, many)
 
     inside : (r : ℕ) → r < length (regions s.instance) → r < length j.regions
@@ -223,7 +224,7 @@ module _ (u v w : View) (closing : Bool) (s : Records) (seq : Sequence) (g : ℕ
         }
 
 -- a region that counts anew is still held
-pub held_begun : (u w : View) (g n r : ℕ) (x y : Standing) → OthersStay (IsNewestFile g n) u w → n ≤ 8 → r < n → x.file ≡ database_file r → IsBegun x y → IfSome u.content (IsHeld x) → IfSome w.content (IsHeld y)
+pub held_begun : (u w : View) (g n r : ℕ) (x y : Standing) → OthersStay (IsNewestFile g n) u w → n ≤ MOST_REGIONS → r < n → x.file ≡ database_file r → IsBegun x y → IfSome u.content (IsHeld x) → IfSome w.content (IsHeld y)
 held_begun u w g n r x y frame few low file begun held =
     reads_after u.content w.content (SameOutside (IsNewestFile g n)) (IsHeld x) (IsHeld y) frame.content held
     (λ a b h same.

@@ -1,6 +1,7 @@
 -- A site whose journals gain the images that its regions need.
 use Rattle.std.proofs.Common.{◌≡◌, ◌≤◌, ◌<◌, ℕ, suc, List, [], ◌++◌, length, map, Some, None, Option, refl, sym, ◌∙◌, ap, subst, arith}
 use Rattle.std.specs.Prelude.{IfSome}
+use Rattle.global_defs.specs.declared.limits.TheConstants.{MOST_REGIONS}
 use Rattle.disk_defs.specs.Disk.{Files, View, Image, IsLawful, IsDurable, AtEachMoment, ReadsAfter}
 use Rattle.disk_defs.specs.Frames.{SameOutside, OnlyIn, OthersStay}
 use Rattle.disk_defs.proofs.Frames.{durable_stays, others_then}
@@ -47,7 +48,7 @@ told_then o n P files after is = there n (subst (λ (x : Option Files). ReadsAft
     there (Some now) here = (now, refl, here)
 
 -- no journal is a database file
-pub apart : (g n r : ℕ) → n ≤ 8 → r < n → IsNewestFile g n (database_file r) → ⊥
+pub apart : (g n r : ℕ) → n ≤ MOST_REGIONS → r < n → IsNewestFile g n (database_file r) → ⊥
 apart g n r few low is = let file = is.is in omega (arith, file, low, few)
 
 -- one phase more
@@ -126,7 +127,7 @@ module _ (u v w : View) (s : Records) (seq : Sequence) (g : ℕ) (newer : ℕ �
     all_frame : OthersStay (IsNewestFile (suc g) (length (regions s.instance))) u w
     all_frame = others_then (IsNewestFile (suc g) (length (regions s.instance))) u v w (subst (λ (n : ℕ). OthersStay (IsNewestFile (suc g) n) u v) k.as_many_journals (frame (suc g) k.ready)) frame_here
 
-    few : length (regions s.instance) ≤ 8
+    few : length (regions s.instance) ≤ MOST_REGIONS
     few = let few = k.ready.few in let many = k.as_many_journals in omega (arith, few, many)
 
     pub is_imaged : IsImaged w s seq g newer ls i
@@ -162,7 +163,7 @@ module _ (u v w : View) (s : Records) (seq : Sequence) (g : ℕ) (newer : ℕ �
         }
 
 -- a region whose marks were kept is still held
-pub held_after : (u w : View) (g n r : ℕ) (x y : Standing) → OthersStay (IsNewestFile g n) u w → n ≤ 8 → r < n → x.file ≡ database_file r → KeepsMarks x y → IfSome u.content (IsHeld x) → IfSome w.content (IsHeld y)
+pub held_after : (u w : View) (g n r : ℕ) (x y : Standing) → OthersStay (IsNewestFile g n) u w → n ≤ MOST_REGIONS → r < n → x.file ≡ database_file r → KeepsMarks x y → IfSome u.content (IsHeld x) → IfSome w.content (IsHeld y)
 held_after u w g n r x y frame few low file marks held =
     reads_after u.content w.content (SameOutside (IsNewestFile g n)) (IsHeld x) (IsHeld y) frame.content held
     (λ a b h same. held_marked x y a b marks (ap b file ∙ same (database_file r) (apart g n r few low) ∙ ap a (sym file)) h)

@@ -2,6 +2,7 @@
 use Rattle.std.proofs.Common.{◌≡◌, ◌≢◌, ◌⊎◌, ◌≤◌, ◌<◌, ℕ, suc, List, [], ◌∷◌, ◌++◌, length, map, take, filter, Some, None, refl, sym, ◌∙◌, ap, subst, arith, append-nil}
 use Rattle.std.specs.Prelude.{Option}
 use Rattle.std.proofs.Math.Seq.{take-length}
+use Rattle.global_defs.specs.declared.limits.TheConstants.{MOST_REGIONS}
 use Rattle.disk_defs.specs.Disk.{Files, View, Image, From, IsLawful, IsDurable, AtEachMoment}
 use Rattle.disk_defs.specs.Frames.{SameOutside, OnlyIn, OthersStay}
 use Rattle.disk_defs.proofs.Moments.{weaker, holds_now}
@@ -129,7 +130,7 @@ module _ (u v : View) (s : Records) (seq : Sequence) (g : ℕ) (newer : ℕ → 
 
   -- ---- blocks are written
 
-  module _ (j : Joined) (few : length (regions s.instance) ≤ 8) (as_many : length j.regions ≡ length (regions s.instance))
+  module _ (j : Joined) (few : length (regions s.instance) ≤ MOST_REGIONS) (as_many : length j.regions ≡ length (regions s.instance))
       (may : (r : ℕ) → r < length (regions s.instance) → (d c : List ℕ) → IsCutShort (region_at j r) d c → NeedsForward s.instance (length seq) (s.journal r) ⊎ MayChange (chosen s.instance (length seq) (s.journal r)) (block_of d) (block_of c)) where
     cut_image : (d c : Files) → Image u d → AreCutShort j d c → IsSoundImage c s seq
     cut_image d c now cut = writing.image d c s seq (sound.images d now) few

@@ -3,6 +3,7 @@ use Rattle.std.proofs.Common.{◌≡◌, ◌⊎◌, inl, inr, ◌≤◌, ◌<◌
 use Rattle.std.specs.Prelude.{IfSome}
 use Rattle.std.proofs.Math.Path.{fun_ext}
 use Rattle.std.proofs.lemmas.Option.{slice_get_within}
+use Rattle.global_defs.specs.declared.limits.TheConstants.{MOST_REGIONS}
 use Rattle.disk_defs.specs.Disk.{Files, View, Image, From, IsLawful, IsDurable, AtEachMoment}
 use Rattle.disk_defs.specs.Frames.{IsWithin, SameOutside, OnlyIn, OthersStay}
 use Rattle.disk_defs.proofs.Moments.{only_weaker, only_wider}
@@ -31,7 +32,7 @@ use Rattle.region_epochs.proofs.Logs.{told_then}
 -- ---- the regions are written out
 
 -- no database file is a journal
-no_journal : (n g r : ℕ) → n ≤ 8 → IsDatabaseFile n (journal_file g r) → ⊥
+no_journal : (n g r : ℕ) → n ≤ MOST_REGIONS → IsDatabaseFile n (journal_file g r) → ⊥
 no_journal n g r few is = let file = is.is in let low = is.inside in omega (arith, file, low, few)
 
 pub together_written : (v w : View) (g : ℕ) (js : List RegionJournal) (i j : Joined) → OthersStay (IsDatabaseFile (length i.regions)) v w → HasSameNodes i j → ((r : ℕ) → r < length i.regions → IfSome w.content (IsHeld (region_at j r)))
@@ -64,7 +65,7 @@ epochs_written closing number i j made same wrote are = record {
 }
 
 module _ (v w : View) (s : Records) (seq : Sequence) (g : ℕ) (newer : ℕ → List JournalRecord) (js : List RegionJournal) (i : Joined) (k : IsKept v s seq g newer js i) (run : AtEachMoment v w (From (Image v) (AreCutShort i))) where
-  few : length (regions s.instance) ≤ 8
+  few : length (regions s.instance) ≤ MOST_REGIONS
   few = let few = k.ready.few in let many = k.as_many_journals in omega (arith, few, many)
 
   may : (r : ℕ) → r < length (regions s.instance) → (d c : List ℕ) → IsCutShort (region_at i r) d c → NeedsForward s.instance (length seq) (s.journal r) ⊎ MayChange (chosen s.instance (length seq) (s.journal r)) (block_of d) (block_of c)

@@ -3,6 +3,7 @@ use Rattle.std.proofs.Common.{◌≡◌, ◌≢◌, ◌⊎◌, inl, inr, ⊎_eli
 use Rattle.std.specs.Prelude.{IfSome, slice_get, Result, Ok, Err, OnOk, OnErr}
 use Rattle.std.specs.List.{AllByRecursion}
 use Rattle.std.proofs.lemmas.Bool.{cases_eq}
+use Rattle.global_defs.specs.declared.limits.TheConstants.{NUMBERS_END}
 use Rattle.disk_defs.specs.Disk.{Files, View, Image, From, OnFile, IsLawful, IsDurable, AtEachMoment, ReadsAfter}
 use Rattle.disk_defs.specs.Frames.{Only, SameOutside, OthersStay}
 use Rattle.disk_defs.proofs.Frames.{durable_stays, others_then, others_wider}
@@ -47,7 +48,7 @@ first_version (Epoch closing number blocks) m is = tt
 first_version (Pblk block image) m is = tt
 first_version (Tcom number mask origin count items) m is = tt
 
-epoch_may_be : (what : JnlRecord) (m : Mark) → record_value what ≡ journal.Epoch m → m.number < 2 ^ 40 → m.blocks < 2 ^ 32 → MayBeAppended what
+epoch_may_be : (what : JnlRecord) (m : Mark) → record_value what ≡ journal.Epoch m → m.number < NUMBERS_END → m.blocks < 2 ^ 32 → MayBeAppended what
 epoch_may_be what m is number blocks = record {
   form = subst journal.IsInForm (sym is) (number, blocks);
   version = first_version what m is;
@@ -76,7 +77,7 @@ no_epochs closing number j made epochs images = record {
 
 pub epoch_then : (closing : Bool) (number k : ℕ) (j : Joined) (old new : Flushed) (what : JnlRecord) (marks : List Bool) → EpochsTo closing number k j old
     → new.epochs.items ≡ old.epochs.items ++ what ∷ [] → new.images.items ≡ old.images.items ++ marks ∷ []
-    → record_value what ≡ journal.Epoch (mark_of closing number j k) → number < 2 ^ 40 → length (region_at j k).pool.leaves < 2 ^ 32 → marks ≡ replicate (length (region_at j k).pool.leaves) false
+    → record_value what ≡ journal.Epoch (mark_of closing number j k) → number < NUMBERS_END → length (region_at j k).pool.leaves < 2 ^ 32 → marks ≡ replicate (length (region_at j k).pool.leaves) false
     → EpochsTo closing number (k + 1) j new
 epoch_then closing number k j old new what marks so_far epochs images is few low none =
     let many = so_far.as_many_epochs in

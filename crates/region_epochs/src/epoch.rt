@@ -1,5 +1,6 @@
 //! An epoch of all regions of a site.
 ghost use Rattle.std.specs.Prelude.{◌≡◌, ◌⊎◌, ◌<◌, ◌++◌, ◌^◌, ℕ, suc, List, length, OnOk, OnErr, IsErrOf};
+ghost use Rattle.global_defs.specs.declared.limits.TheConstants.{NUMBERS_END};
 ghost use Rattle.disk_defs.specs.Disk.{AtEachMoment, MayFailUncounted};
 ghost use Rattle.disk_defs.specs.Frames.{OnlyIn, OthersStay};
 ghost use Rattle.global_defs.specs.Entry.{Sequence};
@@ -34,7 +35,7 @@ pub fn take_epoch<D: Disk>(
     closing: bool,
 ) -> Result<(), EpochError>
     requires together { (g : ℕ) × IsTogether (D.disk disk.old) g journals.old.journals.items regions.old }
-    requires number { number < 2 ^ 40 }
+    requires number { number < NUMBERS_END }
     ensures together { OnOk result ((g : ℕ) → IsTogether (D.disk disk.old) g journals.old.journals.items regions.old → IsTogether (D.disk disk.new) g journals.new.journals.items regions.new) }
     // where the disk tells its files, and they stand for so many entries
     ensures done { OnOk result ((s : Records) (seq : Sequence) (g : ℕ) (newer : ℕ → List JournalRecord) → IsKept (D.disk disk.old) s seq g newer journals.old.journals.items regions.old → length seq ≡ number → IsTaken (D.disk disk.new) closing s seq g newer journals.new.journals.items regions.new) }

@@ -1,5 +1,6 @@
 //! The changed blocks of all regions, written out.
 ghost use Rattle.std.specs.Prelude.{◌≡◌, ◌<◌, ◌^◌, ◌++◌, ◌∷◌, [], ℕ, length, IfSome, IfOk, OnOk, IsErrOf};
+ghost use Rattle.global_defs.specs.declared.limits.TheConstants.{NUMBERS_END};
 ghost use Rattle.disk_defs.specs.Disk.{Image, From, AtEachMoment, IsDurable, MayFailUncounted};
 ghost use Rattle.disk_defs.specs.Frames.{OthersStay};
 ghost use Rattle.journal_defs.specs.Numbers.{database_file};
@@ -58,7 +59,7 @@ pub(crate) fn flush_regions<D: Disk>(
     number: u64,
     closing: bool,
 ) -> Result<Flushed, EpochError>
-    requires number { number < 2 ^ 40 }
+    requires number { number < NUMBERS_END }
     requires writable { AreWritable regions.old }
     requires held { (r : ℕ) → r < length regions.old.regions → IfSome (D.disk disk.old).content (IsHeld (region_at regions.old r)) }
     ensures flushed { IfOk result (λ _. (r : ℕ) → r < length regions.old.regions → region_at regions.new r ≡ flushed (region_at regions.old r)) }

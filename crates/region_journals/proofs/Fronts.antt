@@ -3,6 +3,7 @@ use Rattle.std.proofs.Common.{◌≡◌, ◌≢◌, ◌≤◌, ◌<◌, ℕ, zer
 use Rattle.std.specs.Prelude.{Option}
 use Rattle.std.specs.List.{AllByRecursion, cons_option}
 use Rattle.std.specs.Option.{option_map}
+use Rattle.global_defs.specs.declared.limits.TheConstants.{MOST_REGIONS}
 use Rattle.disk_defs.specs.Disk.{Files}
 use Rattle.disk_defs.specs.Frames.{SameOutside}
 use Rattle.disk_defs.specs.Gates.{records}
@@ -40,14 +41,14 @@ none_taken (suc k) = refl
 module _ (d f : Files) (s : Records) (seq : Sequence) (g : ℕ) (newer : ℕ → List JournalRecord) (ps : List (ℕ → Option Part)) (kept : ℕ → ℕ)
     (image : IsSoundImage d s seq) (newest : AreNewest d s g newer) (none : NonePast (length seq) s) (inside : AreInside (length (regions s.instance)) ps)
     (same : SameOutside (IsNewestFile (suc g) (length (regions s.instance))) d f) (first : HasFirst (suc g) (length (regions s.instance)) newer (tcoms ps) kept f) where
-  few : length (regions s.instance) ≤ 8
+  few : length (regions s.instance) ≤ MOST_REGIONS
   few = few_regions d s image.held
 
   -- the records with the first few
   abbrev more : Records
   more = with_more s (λ r. take (kept r) (appended (suc g) ps r))
 
-  away : (file : ℕ) → ((q : ℕ) → q < 8 → file ≢ journal_file (suc g) q) → f file ≡ d file
+  away : (file : ℕ) → ((q : ℕ) → q < MOST_REGIONS → file ≢ journal_file (suc g) q) → f file ≡ d file
   away file other = same file (λ i. other i.region (omega (arith, few, i.inside)) i.is)
 
   held_more : AreRecords f more

@@ -1,6 +1,7 @@
 -- Each moment of calls that go over the regions.
 use Rattle.std.proofs.Common.{◌≡◌, ◌≤◌, ◌<◌, ℕ, List, inl, inr, sym, ◌∙◌, subst, arith}
 use Rattle.std.proofs.lemmas.Bool.{cases_eq}
+use Rattle.global_defs.specs.declared.limits.TheConstants.{MOST_REGIONS}
 use Rattle.disk_defs.specs.Disk.{Files, View, IsLawful, AtEachMoment}
 use Rattle.disk_defs.specs.Frames.{Only, OnlyIn, OnlyOn, IsWithin, OthersStay}
 use Rattle.disk_defs.proofs.Frames.{others_then, others_wider}
@@ -15,7 +16,7 @@ Have g n N c = (r : ℕ) → r < n → N r (c (journal_file g r))
 within : (g n k file : ℕ) → k < n → file ≡ journal_file g k → IsWithin (Only file) (IsNewestFile g n)
 within g n k file there is f same = record { region = k; inside = there; is = same ∙ is }
 
-module _ (u v w : View) (g n k file : ℕ) (few : n ≤ 8) (there : k < n) (is : file ≡ journal_file g k) where
+module _ (u v w : View) (g n k file : ℕ) (few : n ≤ MOST_REGIONS) (there : k < n) (is : file ≡ journal_file g k) where
   -- a call more at one region's file
   pub moments_on : (N : ℕ → List ℕ → Type 0) → IsLawful v → AtEachMoment u v (OnlyIn u (IsNewestFile g n) (Have g n N)) → AtEachMoment v w (OnlyOn v file (N k)) → AtEachMoment u w (OnlyIn u (IsNewestFile g n) (Have g n N))
   moments_on N lawful so_far call =

@@ -4,6 +4,7 @@ use Rattle.std.specs.Prelude.{slice_get, IsTrue}
 use Rattle.std.proofs.lemmas.Bool.{cases_eq, cases_lt}
 use Rattle.std.proofs.lemmas.Option.{slice_get_within, slice_get-get_or, get_or_from_slice_get}
 use Rattle.std.proofs.lemmas.List.{length-set}
+use Rattle.global_defs.specs.declared.limits.TheConstants.{MOST_REGIONS}
 use Rattle.disk_defs.specs.Disk.{View}
 use Rattle.disk_defs.specs.Frames.{Only, OthersStay}
 use Rattle.journal_defs.specs.Numbers.{journal_file}
@@ -112,7 +113,7 @@ module _ (F : ℕ → RegionJournal → RegionJournal → Type 0) (S : ℕ → R
       state = λ s t goes has. turned.state s t (subst (λ (q : RegionJournal). S k q s t) (sym left.same) goes) (left.state s has);
     }
 
-    still : (w : View) (file r : ℕ) (y : RegionJournal) → OthersStay (Only file) v w → file ≡ journal_file g k → r ≢ k → r < 8 → k < 8 → slice_get new r ≡ Some y → IsAt u v F S k old r y → IsAt u w F S (k + 1) old r y
+    still : (w : View) (file r : ℕ) (y : RegionJournal) → OthersStay (Only file) v w → file ≡ journal_file g k → r ≢ k → r < MOST_REGIONS → k < MOST_REGIONS → slice_get new r ≡ Some y → IsAt u v F S k old r y → IsAt u w F S (k + 1) old r y
     still w file r y stays here other low low_k is is_at =
         let away : y.journal.gated.file ≢ file = λ e. other (let mine = file_at r y is in omega (arith, mine, here, e, low, low_k)) in
         record {

@@ -1,5 +1,6 @@
 -- A site's newest journals, by region.
 use Rattle.std.specs.Prelude.{◌≡◌, ◌≤◌, ℕ, ◌+◌, Bool, false, List, [], ◌∷◌, length, get_or, slice_get, Option, Some, None, IsTrue}
+use Rattle.global_defs.specs.declared.limits.TheConstants.{MOST_REGIONS}
 use Rattle.disk_defs.specs.Disk.{View}
 use Rattle.journal_defs.specs.Journal.{JournalRecord}
 use Rattle.jnl_file.specs.Journal as journals
@@ -15,7 +16,7 @@ pub record IsOpen (v : View) (g : ℕ) (P : Journal → Type 0) (r : ℕ) (x : R
 
 -- the same of each region's
 pub record AreOpen (v : View) (g : ℕ) (P : Journal → Type 0) (js : List RegionJournal) : Type 0 where
-  pub few : length js ≤ 8
+  pub few : length js ≤ MOST_REGIONS
   pub each : (r : ℕ) (x : RegionJournal) → slice_get js r ≡ Some x → IsOpen v g P r x
 
 -- there is room for the syncs of a hardening

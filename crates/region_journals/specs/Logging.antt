@@ -1,5 +1,6 @@
 -- Records on their way into one region's journal.
 use Rattle.std.specs.Prelude.{◌≡◌, ◌≤◌, ◌==◌, ◌++◌, ℕ, false, List, [], length, if◌then◌else◌, IsTrue}
+use Rattle.global_defs.specs.declared.limits.TheConstants.{LONGEST_BODY}
 use Rattle.disk_defs.specs.Disk.{View}
 use Rattle.journal_defs.specs.Journal.{JournalRecord, IsInForm, spelled_record}
 use Rattle.jnl_record.specs.declared.record.JnlRecord.{JnlRecord}
@@ -12,7 +13,7 @@ use Rattle.region_journals.specs.Journals.{HasSyncs}
 pub record MayBeAppended (r : JnlRecord) : Type 0 where
   pub form : IsInForm (record_value r)
   pub version : IsFirstVersion r
-  pub short : length (spelled_record (record_value r)) ≤ 1048576
+  pub short : length (spelled_record (record_value r)) ≤ LONGEST_BODY
 
 -- these records in one region, and none in any other
 abbrev pub in_region : ℕ → List JournalRecord → ℕ → List JournalRecord

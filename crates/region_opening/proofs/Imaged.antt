@@ -2,6 +2,7 @@
 use Rattle.std.proofs.Common.{◌≡◌, ℕ, ◌+◌, ◌<◌, ◌≤◌, Bool, true, false, List, [], ◌∷◌, ◌++◌, length, map, take, get_or, Option, IfSome, refl, sym, ◌∙◌, ap, subst, arith, append-nil}
 use Rattle.std.proofs.lemmas.List.{take_all, map-append}
 use Rattle.std.proofs.lemmas.List.Elements.{filter-append}
+use Rattle.global_defs.specs.declared.limits.TheConstants.{MOST_GENERATIONS}
 use Rattle.disk_defs.specs.Disk.{Files}
 use Rattle.disk_defs.proofs.Told.{weaker_told, both_weak}
 use Rattle.journal_defs.specs.Journal.{JournalRecord, Before, Pini, Epoch, Pblk, Tcom, IsInForm}
@@ -82,12 +83,12 @@ module _ (o : Option Files) (r : ℕ) (s : PlacedSign) where
   not_added made other = all_told o (IsAdded made made) (λ files p sign. sym (ap (λ (ps : List Placed). map placed_value made ++ ps) (one_dropped p (said files p false other sign)) ∙ append-nil (map placed_value made)))
 
   -- where no image stands the sign is that of no record
-  pub not_there : says_image s.sign ≡ true → IfSome o (λ files. (i : Before) → StandsAt (files (journal_file s.generation r)) s.offset (Pblk i) → s.generation ≤ 65535 → ⊥)
+  pub not_there : says_image s.sign ≡ true → IfSome o (λ files. (i : Before) → StandsAt (files (journal_file s.generation r)) s.offset (Pblk i) → s.generation ≤ MOST_GENERATIONS → ⊥)
       → IfSome o (λ files. (p : Placed) → IsSignOf files r s p → IsDrawn p → ⊥)
-  not_there image told = weaker_told o (λ files. (i : Before) → StandsAt (files (journal_file s.generation r)) s.offset (Pblk i) → s.generation ≤ 65535 → ⊥) (λ files. (p : Placed) → IsSignOf files r s p → IsDrawn p → ⊥) told
+  not_there image told = weaker_told o (λ files. (i : Before) → StandsAt (files (journal_file s.generation r)) s.offset (Pblk i) → s.generation ≤ MOST_GENERATIONS → ⊥) (λ files. (p : Placed) → IsSignOf files r s p → IsDrawn p → ⊥) told
       (λ files none p sign drawn.
       let is = of_image p.what (said files p true image sign) in
-      let low : s.generation ≤ 65535 = let same = sign.generation in let high = drawn.1 in omega (arith, same, high) in
+      let low : s.generation ≤ MOST_GENERATIONS = let same = sign.generation in let high = drawn.1 in omega (arith, same, high) in
       none is.0 (subst (λ (w : JournalRecord). StandsAt (files (journal_file s.generation r)) s.offset w) is.1 (there files p sign)) low)
 
 -- ---- all records

@@ -11,6 +11,7 @@ use Rattle.journal_defs.specs.Sequence.{Placed}
 use Rattle.journal_defs.specs.Epochs.{Blocks, Chosen, epoch_in, last_epoch, beginning, chosen, image_in, image_of, image_state, starts_without, first_without, NeedsForward}
 use Rattle.entry_index.proofs.Either.{either, first_none}
 use Rattle.entry_index.specs.Thinned.{part_generation, IsSettled, MayGo, is_floor_in, has_floor, IsThinned}
+use Rattle.global_defs.proofs.Basics.{and_false as and_no}
 
 some_of : (a b c : Bool) (x : Chosen) → (a && b && c) ≡ true → is_some (if a && b then Some x else None) ≡ true
 some_of true true c x is = refl
@@ -144,10 +145,6 @@ begins_none instance n g (Tcom p) settled = refl
 begins_none instance n g (Pini s) settled = absurd settled
 begins_none instance n g (Epoch m) settled = absurd settled
 begins_none instance n g (Pblk b) settled = absurd settled
-
-and_no : (b : Bool) → (b && false) ≡ false
-and_no true = refl
-and_no false = refl
 
 and_false : (b c : Bool) → c ≡ false → (b && c) ≡ false
 and_false b c is = ap (λ (x : Bool). b && x) is ∙ and_no b

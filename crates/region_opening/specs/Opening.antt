@@ -2,6 +2,7 @@
 use Rattle.std.specs.Prelude.{◌≡◌, ◌⊎◌, ℕ, ◌*◌, ◌<◌, ◌≤◌, ◌==◌, Bool, true, List, [], take, Option}
 use Rattle.std.specs.List.{AllByRecursion, list_all}
 use Rattle.std.specs.FinMap as globals
+use Rattle.global_defs.specs.declared.limits.TheConstants.{BLOCK}
 use Rattle.disk_defs.specs.Disk.{Files}
 use Rattle.global_defs.specs.Entry.{Globals, Sequence}
 use Rattle.global_defs.specs.Fields.{IsTransaction}
@@ -10,7 +11,7 @@ use Rattle.journal_defs.specs.Instance.{InstanceRecord}
 use Rattle.journal_defs.specs.Directory.{Pattern, region_of, patterns}
 use Rattle.journal_defs.specs.Surviving.{reigns}
 use Rattle.journal_defs.specs.Sequence.{Placed}
-use Rattle.journal_defs.specs.Epochs.{Chosen, BLOCK, beginning, chosen, image_state, block_of, NeedsForward}
+use Rattle.journal_defs.specs.Epochs.{Chosen, beginning, chosen, image_state, block_of, NeedsForward}
 use Rattle.journal_defs.specs.Sound.{IsSound, region_state}
 use Rattle.region_store.specs.Region.{Standing, HoldsRegion}
 use Rattle.site_defs.specs.OutsideBlocks.{IsOutsideAt, AreOutside}

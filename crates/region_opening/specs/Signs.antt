@@ -3,6 +3,7 @@ use Rattle.std.specs.Prelude.{◌≡◌, ℕ, ◌≤◌, ◌==◌, ◌&&◌, Boo
 use Rattle.std.specs.List.{AllByRecursion, AllZip, list_any}
 use Rattle.std.specs.Ordering.{nat_cmp}
 use Rattle.std.specs.BTreeSet.{BTreeSet, contains}
+use Rattle.global_defs.specs.declared.limits.TheConstants.{MOST_GENERATIONS}
 use Rattle.disk_defs.specs.Disk.{Files}
 use Rattle.journal_defs.specs.Instance.{InstanceRecord}
 use Rattle.journal_defs.specs.Surviving.{survives}
@@ -38,7 +39,7 @@ pub record AllSay (instance : List InstanceRecord) (t : ℕ) (signs : List (List
 
 -- the generation is one that there may be
 abbrev pub IsDrawn : Placed → Type 0
-IsDrawn p = (1 ≤ p.generation) × (p.generation ≤ 65535)
+IsDrawn p = (1 ≤ p.generation) × (p.generation ≤ MOST_GENERATIONS)
 
 -- These are the signs of a region's records, by their places in files.
 pub record AreTold (files : Files) (r : ℕ) (signs : List PlacedSign) (journal : List Placed) : Type 0 where

@@ -2,6 +2,7 @@
 ghost use Rattle.std.specs.Prelude.{◌≡◌, ◌↔◌, ◌≤◌, ◌-◌, ℕ, length, slice_get, Some, IfOk, IfSome, IsErrOf, IsTrue};
 ghost use Rattle.std.specs.List.{AllByRecursion};
 ghost use Rattle.std.specs.Option.{option_map};
+ghost use Rattle.global_defs.specs.declared.limits.TheConstants.{MOST_REGIONS};
 ghost use Rattle.disk_defs.specs.Disk.{Reads, MayFail};
 ghost use Rattle.global_defs.specs.Entry.{Sequence};
 ghost use Rattle.global_defs.specs.Fields.{IsUpdate, IsTransaction};
@@ -12,14 +13,12 @@ ghost use Rattle.entry_index.specs.Indexes.{Indexes};
 ghost use Rattle.entry_index.specs.Parts.{InFiles};
 
 use entry_index::{EntryIndex, IndexError};
+use global_defs::limits::LONGEST_VALUE;
 use gvn_key::terms::Update;
 use gvn_model::{Entry, Reigns, Updates};
 use region_store::RegionError;
 use repl_disk::Disk;
 use std::alloc::Global;
-
-/// How many bytes a value may have.
-const LONGEST_VALUE: usize = 1500;
 
 /// Whether an update has its form. Each key that there is has a code, which isn't empty.
 fn is_formed(update: &Update) -> bool
@@ -55,7 +54,7 @@ fn read_found<D: Disk>(
 ) -> Result<Option<Entry>, RegionError>
     requires starts { AreStarts history.now starts.now }
     requires first { 1 ≤ number }
-    requires regions { entries.now.regions ≤ 8 }
+    requires regions { entries.now.regions ≤ MOST_REGIONS }
     ensures entry { IfOk result (λ found. IfSome (D.disk disk.old).content (λ files. (seq : Sequence) → Indexes (InFiles files) history.now entries.now seq → option_map entry_value found ≡ slice_get seq (number - 1))) }
     ensures outside { (f at : ℕ) → IsErrOf result (RegionError.NotAFile f at) → IfSome (D.disk disk.old).content (λ files. (seq : Sequence) → Indexes (InFiles files) history.now entries.now seq → ⊥) }
     ensures reads { Reads (D.disk disk.old) (D.disk disk.new) }
@@ -85,7 +84,7 @@ pub(crate) fn read_entry<D: Disk>(
 ) -> Result<Entry, RegionError>
     requires starts { AreStarts history.now starts.now }
     requires first { 1 ≤ number }
-    requires regions { entries.now.regions ≤ 8 }
+    requires regions { entries.now.regions ≤ MOST_REGIONS }
     ensures forms { IfOk result (λ found. AllByRecursion IsUpdate found.transaction.updates) }
     ensures entry { IfOk result (λ found. IfSome (D.disk disk.old).content (λ files. (seq : Sequence) → Indexes (InFiles files) history.now entries.now seq → slice_get seq (number - 1) ≡ Some (entry_value found))) }
     ensures outside { (f at : ℕ) → IsErrOf result (RegionError.NotAFile f at) → IfSome (D.disk disk.old).content (λ files. (seq : Sequence) → Indexes (InFiles files) history.now entries.now seq → AllByRecursion (λ e. IsTransaction e.transaction) seq → number ≤ length seq → ⊥) }

@@ -1,5 +1,6 @@
 //! Images of blocks, read from their places.
 ghost use Rattle.std.specs.Prelude.{◌≡◌, ◌≤◌, ◌<◌, ◌++◌, ◌∷◌, [], ℕ, List, map, true, IfOk, IfSome, OnOk, IsErrOf, IsTrue};
+ghost use Rattle.global_defs.specs.declared.limits.TheConstants.{MOST_REGIONS};
 ghost use Rattle.disk_defs.specs.Disk.{Reads, MayFail};
 ghost use Rattle.journal_defs.specs.Journal as journal;
 ghost use Rattle.journal_defs.specs.Journal.{JournalRecord, Before, IsInForm};
@@ -11,16 +12,14 @@ ghost use Rattle.entry_index.specs.Places.{StandsAt, IsSignOf};
 ghost use Rattle.region_opening.specs.Signs.{IsDrawn, AreTold};
 ghost use Rattle.region_opening.specs.Images.{images_in};
 
-use entry_index::{LAST_GENERATION, PlacedSign, Sign, read_placed};
+use entry_index::{PlacedSign, Sign, read_placed};
+use global_defs::limits::{BLOCK, MOST_GENERATIONS};
 use gvn_key::NoMemory;
 use jnl_file::{JournalError, journal_file};
 use jnl_record::{JnlRecord, PlacedRecord};
 use region_store::RegionError;
 use repl_disk::Disk;
 use std::alloc::Global;
-
-/// How many bytes a block has.
-const BLOCK: usize = 4096;
 
 /// Whether a record is the image of a block with all its bytes.
 fn is_image(what: &JnlRecord) -> bool
@@ -48,15 +47,15 @@ fn read_image<D: Disk>(
     generation: u32,
     offset: u64,
 ) -> Result<PlacedRecord, RegionError>
-    requires region { region < 8 }
+    requires region { region < MOST_REGIONS }
     ensures form { IfOk result (λ found. IsInForm (record_value found.what)) }
     ensures generation { IfOk result (λ found. found.generation ≡ generation) }
     ensures image { IfOk result (λ found. IfSome (D.disk disk.old).content (λ files. (r : JournalRecord) → StandsAt (files (journal_file generation region)) offset r → record_value found.what ≡ r)) }
-    ensures outside { (f at : ℕ) → IsErrOf result (RegionError.NotAFile f at) → IfSome (D.disk disk.old).content (λ files. (i : Before) → StandsAt (files (journal_file generation region)) offset (journal.Pblk i) → generation ≤ 65535 → ⊥) }
+    ensures outside { (f at : ℕ) → IsErrOf result (RegionError.NotAFile f at) → IfSome (D.disk disk.old).content (λ files. (i : Before) → StandsAt (files (journal_file generation region)) offset (journal.Pblk i) → generation ≤ MOST_GENERATIONS → ⊥) }
     ensures reads { Reads (D.disk disk.old) (D.disk disk.new) }
     ensures faults { MayFail (D.disk disk.old).faults (D.disk disk.new).faults (λ fault. IsErrOf result (RegionError.Failed fault)) }
 {
-    if generation > LAST_GENERATION {
+    if generation > MOST_GENERATIONS {
         return Err(RegionError::NotAFile {
             file: u32::MAX,
             offset,
@@ -95,7 +94,7 @@ fn add_image<D: Disk>(
     placed: &PlacedSign,
     made: &mut Vec<PlacedRecord>,
 ) -> Result<(), RegionError>
-    requires region { region < 8 }
+    requires region { region < MOST_REGIONS }
     requires forms { AreFormed (map placed_value made.old.items) }
     ensures forms { OnOk result (AreFormed (map placed_value made.new.items)) }
     ensures added { OnOk result (IfSome (D.disk disk.old).content (λ files. (p : Placed) → IsSignOf files region placed.now p → map placed_value made.new.items ≡ map placed_value made.old.items ++ images_in (p ∷ []))) }
@@ -123,7 +122,7 @@ pub(crate) fn read_images<D: Disk>(
     region: u8,
     behind: &[PlacedSign],
 ) -> Result<Vec<PlacedRecord>, RegionError>
-    requires region { region < 8 }
+    requires region { region < MOST_REGIONS }
     ensures forms { IfOk result (λ made. AreFormed (map placed_value made.items)) }
     ensures images { IfOk result (λ made. IfSome (D.disk disk.old).content (λ files. (journal : List Placed) → AreTold files region behind.now journal → map placed_value made.items ≡ images_in journal)) }
     ensures outside { (f at : ℕ) → IsErrOf result (RegionError.NotAFile f at) → IfSome (D.disk disk.old).content (λ files. (journal : List Placed) → AreTold files region behind.now journal → ⊥) }

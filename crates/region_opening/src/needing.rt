@@ -1,5 +1,6 @@
 //! Regions that need forward recovery.
 ghost use Rattle.std.specs.Prelude.{◌≡◌, ◌≤◌, ℕ, List, length, map, None, IfOk, IfSome};
+ghost use Rattle.global_defs.specs.declared.limits.TheConstants.{MOST_REGIONS};
 ghost use Rattle.journal_defs.specs.Epochs.{chosen, first_without};
 ghost use Rattle.journal_defs.specs.Sequence.{Placed};
 ghost use Rattle.region_opening.specs.Signs.{Say, AllSay};
@@ -43,7 +44,7 @@ pub fn first_without_images(
     signs: &[Vec<PlacedSign>],
     target: u64,
 ) -> Result<Option<WithoutImages>, NoMemory>
-    requires few { length signs.now ≤ 8 }
+    requires few { length signs.now ≤ MOST_REGIONS }
     ensures none { IfOk result (λ found. found ≡ None → (journal : ℕ → List Placed) → AllSay instance.now target (map (λ s. s.items) signs.now) journal → NoneNeeds instance.now target journal (length signs.now)) }
     ensures first { IfOk result (λ found. IfSome found (λ x. (journal : ℕ → List Placed) → AllSay instance.now target (map (λ s. s.items) signs.now) journal → IsFirstWithout instance.now target journal (length signs.now) x)) }
 {

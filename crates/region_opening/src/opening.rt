@@ -2,6 +2,7 @@
 ghost use Rattle.std.specs.Prelude.{◌≡◌, ◌⊎◌, ◌*◌, ◌<◌, ◌≤◌, ◌∷◌, ◌++◌, ℕ, List, [], length, map, take, true, slice_get, slice_index, Some, IfOk, IfSome, OnOk, IsErrOf};
 ghost use Rattle.std.specs.List.{AllByRecursion};
 ghost use Rattle.std.specs.FinMap as globals;
+ghost use Rattle.global_defs.specs.declared.limits.TheConstants.{MOST_REGIONS};
 ghost use Rattle.disk_defs.specs.Disk.{Reads, MayFail};
 ghost use Rattle.global_defs.specs.Entry.{Sequence, state};
 ghost use Rattle.journal_defs.specs.Numbers.{database_file};
@@ -33,6 +34,7 @@ use global_dir::Directory;
 use gvn_key::NoMemory;
 use gvn_model::Reigns;
 use instance_file::InstanceRecords;
+use journal_defs::files::DATABASE_FILES;
 use region_store::{Region, RegionError, Regions};
 use repl_disk::Disk;
 use std::alloc::Global;
@@ -61,7 +63,7 @@ fn open_at<D: Disk>(
     start: EpochAt,
     signs: &[PlacedSign],
 ) -> Result<Region, RegionError>
-    requires number { number < 8 }
+    requires number { number < MOST_REGIONS }
     requires inside { start.after ≤ length signs.now }
     ensures file { IfOk result (λ made. made.file ≡ database_file number) }
     ensures held { IfOk result (λ made. IfSome (D.disk disk.old).content (IsHeld made)) }
@@ -73,7 +75,7 @@ fn open_at<D: Disk>(
     ensures faults { MayFail (D.disk disk.old).faults (D.disk disk.new).faults (λ fault. IsErrOf result (RegionError.Failed fault)) }
 {
     let images = read_images(alloc, disk, number, &signs[start.after..])?;
-    let file = 1 + number as u32;
+    let file = DATABASE_FILES + number as u32;
     Region::open(alloc, disk, file, start.blocks, &images, &[])
 }
 
@@ -107,7 +109,7 @@ fn open_own<D: Disk>(
     let region = open_at(alloc, disk, number, start, signs)?;
     if !may_be_its_own(alloc, directory, number as usize, &region, start.number)? {
         return Err(RegionError::NotAFile {
-            file: 1 + number as u32,
+            file: DATABASE_FILES + number as u32,
             offset: 0,
         });
     }

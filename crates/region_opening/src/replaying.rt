@@ -1,6 +1,7 @@
 //! Updates of entries that are made in their regions.
 ghost use Rattle.std.specs.Prelude.{◌≡◌, ◌≤◌, ◌<◌, ◌∷◌, [], ℕ, length, map, fold, slice_index, IfSome, OnOk, IsErrOf};
 ghost use Rattle.std.specs.List.{AllByRecursion};
+ghost use Rattle.global_defs.specs.declared.limits.TheConstants.{MOST_REGIONS};
 ghost use Rattle.disk_defs.specs.Disk.{Reads, MayFail};
 ghost use Rattle.global_defs.specs.Entry.{Sequence, apply};
 ghost use Rattle.global_defs.specs.Fields.{IsUpdate, IsTransaction};
@@ -137,7 +138,7 @@ pub(crate) fn replay<D: Disk>(
     target: u64,
 ) -> Result<(), RegionError>
     requires count { length from.now ≡ length regions.old.items }
-    requires regions { entries.now.regions ≤ 8 }
+    requires regions { entries.now.regions ≤ MOST_REGIONS }
     ensures made { OnOk result (AreBecome (IsGivenUpTo (D.disk disk.old).content history.now entries.now directory.now.patterns from.now target) (length regions.old.items) regions.old.items regions.new.items) }
     ensures outside { (f offset : ℕ) → IsErrOf result (RegionError.NotAFile f offset) → IfSome (D.disk disk.old).content (λ files. (seq : Sequence) → Indexes (InFiles files) history.now entries.now seq → AllByRecursion (λ e. IsTransaction e.transaction) seq → target ≤ length seq → ⊥) }
     ensures reads { Reads (D.disk disk.old) (D.disk disk.new) }

@@ -1,7 +1,8 @@
 -- Blocks of an image state as leaves in a pool.
 use Rattle.std.specs.Prelude.{◌≡◌, ◌⊎◌, ℕ, ◌+◌, ◌*◌, ◌<◌, ◌≤◌, false, List, length, map, Option, Some, None}
+use Rattle.global_defs.specs.declared.limits.TheConstants.{BLOCK}
 use Rattle.journal_defs.specs.Journal.{JournalRecord, Pini, Epoch, Pblk, Tcom}
-use Rattle.journal_defs.specs.Epochs.{Chosen, BLOCK, image_of, image_state, block_of}
+use Rattle.journal_defs.specs.Epochs.{Chosen, image_of, image_state, block_of}
 use Rattle.journal_defs.specs.Leaves.{Leaf, IsBlock}
 use Rattle.block_fmt.specs.Cells.{blank}
 use Rattle.block_pool.specs.Code.{Pool}

@@ -1,11 +1,12 @@
 -- A region's globals with their blocks, and what these are against the database file and an epoch.
 use Rattle.std.specs.Prelude.{◌≡◌, ◌≤◌, ◌<◌, ◌+◌, ◌*◌, ◌++◌, ℕ, zero, suc, Bool, true, false, List, [], length, fold, Option, slice_index_or, if◌then◌else◌, refl}
 use Rattle.std.specs.Coded.{Coded, code_by, coded×, coded_list, coded_bool, coded_ℕ}
+use Rattle.global_defs.specs.declared.limits.TheConstants.{BLOCK}
 use Rattle.global_defs.specs.Entry.{Globals, Update, apply}
 use Rattle.gvn_globals.specs.Codes.{globals_code}
 use Rattle.disk_defs.specs.Disk.{Files}
 use Rattle.journal_defs.specs.Journal.{Before}
-use Rattle.journal_defs.specs.Epochs.{Chosen, BLOCK, block_of}
+use Rattle.journal_defs.specs.Epochs.{Chosen, block_of}
 use Rattle.journal_defs.specs.Sound.{Restores}
 use Rattle.block_laws.specs.Nodes.{HaveKeys}
 use Rattle.block_laws.specs.Several.{MayChange}

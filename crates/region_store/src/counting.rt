@@ -1,5 +1,6 @@
 //! How many nodes there are, and how many a list of updates sets in a region.
 ghost use Rattle.std.specs.Prelude.{◌≡◌, ◌≤◌, ◌∷◌, [], map, length};
+ghost use Rattle.global_defs.specs.declared.limits.TheConstants.{MOST_REGIONS};
 ghost use Rattle.journal_defs.specs.Fit.{key_of};
 ghost use Rattle.block_laws.specs.Nodes.{updates_in, sum_below};
 ghost use Rattle.gvn_key.specs.Terms.{update_value};
@@ -47,7 +48,7 @@ pub(crate) fn count_sets_in(directory: &Directory, region: usize, updates: &[Upd
 
 /// How many nodes the regions have. There are at most 8 of them.
 pub(crate) fn count_nodes(regions: &[Region]) -> u64
-    requires { length regions.now ≤ 8 }
+    requires { length regions.now ≤ MOST_REGIONS }
     ensures { result ≡ sum_below (length regions.now) (nodes_at regions.now) }
 {
     let mut nodes = 0;

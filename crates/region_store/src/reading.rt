@@ -22,7 +22,7 @@ use repl_disk::Disk;
 use std::alloc::Global;
 
 /// How many bytes a block has on the file.
-const BLOCK: u64 = 4096;
+const BLOCK: u64 = global_defs::limits::BLOCK as u64;
 
 /// Takes the image that a record is, if it's one.
 fn take_record(undo: &mut Undo, what: &JnlRecord) -> Result<(), NoMemory>

@@ -44,7 +44,7 @@ use std::alloc::Global;
 use std::marker::Model;
 
 /// How many bytes a block has on the file.
-const BLOCK: u64 = 4096;
+const BLOCK: u64 = global_defs::limits::BLOCK as u64;
 
 /// A region's globals on the blocks of its database file, of which some may have changed since they were written.
 #[derive(Debug, Drop)]

@@ -1,6 +1,7 @@
 -- The table of files in memory.
-use Rattle.std.specs.Prelude.{◌≡◌, ◌≢◌, ℕ, ◌+◌, ◌-◌, ◌≤◌, ◌<◌, ◌^◌, ◌==◌, min, false, if◌then◌else◌, List, [], ◌∷◌, ◌++◌, length, take, replicate, slice_index_or, vec_capacity}
+use Rattle.std.specs.Prelude.{◌≡◌, ◌≢◌, ℕ, ◌+◌, ◌-◌, ◌≤◌, ◌<◌, ◌==◌, false, if◌then◌else◌, List, [], ◌∷◌, ◌++◌, length, take, replicate, slice_index_or, vec_capacity}
 use Rattle.std.specs.List.Sorted.{IsNonDecreasingBy}
+use Rattle.global_defs.specs.Counts.{counted_on}
 use Rattle.disk_defs.specs.Disk.{Files}
 use Rattle.repl_disk.specs.Mem.{Mem, Room, settled, wrote, IsImageOf}
 use Rattle.repl_disk.specs.declared.file.MemFile.{MemFile}
@@ -26,10 +27,6 @@ entry_of m = record { mem = mem_of m; left = m.left.items; room = room_of m; syn
 abbrev pub nothing : Entry
 nothing = record { mem = settled []; left = []; room = record { calls = 0; bytes = 0 }; syncs = 0 }
 
--- one more, where a count that stands at its last value stays there
-abbrev pub counted : ℕ → ℕ
-counted n = min (n + 1) (2 ^ 64 - 1)
-
 -- the file of this number; one that is not there is empty
 abbrev pub entry_in : List MemFile → ℕ → Entry
 entry_in [] f = nothing
@@ -42,7 +39,7 @@ abbrev pub entry_written : ℕ → List ℕ → Entry → Entry
 entry_written at bytes e = record { mem = wrote at bytes e.mem; left = e.left; room = record { calls = e.room.calls - 1; bytes = e.room.bytes - length bytes }; syncs = e.syncs }
 
 abbrev pub entry_synced : Entry → Entry
-entry_synced e = record { mem = settled e.mem.read; left = e.left; room = record { calls = e.room.calls - 1; bytes = e.room.bytes }; syncs = counted e.syncs }
+entry_synced e = record { mem = settled e.mem.read; left = e.left; room = record { calls = e.room.calls - 1; bytes = e.room.bytes }; syncs = counted_on e.syncs }
 
 abbrev pub entry_grown : ℕ → ℕ → Entry → Entry
 entry_grown calls bytes e = record { mem = e.mem; left = e.left; room = record { calls = e.room.calls + calls; bytes = e.room.bytes + bytes }; syncs = e.syncs }

@@ -1,8 +1,9 @@
 //! One file of a memory disk.
 ghost use Rattle.std.specs.Prelude.{◌≡◌, ◌≤◌, ◌<◌, ◌+◌, ◌++◌, ◌^◌, ℕ, true, false, length, replicate, slice_index_or, vec_capacity, OnOk, OnErr};
+ghost use Rattle.global_defs.specs.Counts.{counted_on};
 ghost use Rattle.disk_defs.specs.Disk.{written};
 ghost use Rattle.repl_disk.specs.Mem.{marked, wrote, settled, IsImageOf};
-ghost use Rattle.repl_disk.specs.Table.{mem_of, room_of, entry_of, nothing, counted, IsKept, HasMemory};
+ghost use Rattle.repl_disk.specs.Table.{mem_of, room_of, entry_of, nothing, IsKept, HasMemory};
 
 use crate::log::Bytes;
 use std::alloc::{AllocError, Global};
@@ -202,7 +203,7 @@ impl MemFile {
         ensures left { self.new.left.items ≡ self.old.left.items }
         ensures calls { self.new.calls_left + 1 ≡ self.old.calls_left }
         ensures bytes { self.new.bytes_left ≡ self.old.bytes_left }
-        ensures syncs { self.new.syncs ≡ counted self.old.syncs }
+        ensures syncs { self.new.syncs ≡ counted_on self.old.syncs }
     {
         self.low = self.read.len();
         self.synced.clear();

@@ -1,9 +1,10 @@
 //! A disk in memory, which keeps a record of its calls.
 ghost use Rattle.std.specs.Prelude.{◌≡◌, ◌≢◌, ◌≤◌, ◌<◌, ◌+◌, ◌++◌, ◌^◌, [], ◌∷◌, ℕ, Some, length, reverse, IfOk, IfSome, OnOk, OnErr, IsTrue};
+ghost use Rattle.global_defs.specs.Counts.{counted_on};
 ghost use Rattle.disk_defs.specs.Disk.{Files, Image, HasCause};
 ghost use Rattle.repl_disk.specs.Mem.{Wrote, Synced, replay, mem_view, settled, RoomTaken, RoomGiven};
 ghost use Rattle.repl_disk.specs.MemLaws.{mem_lawful};
-ghost use Rattle.repl_disk.specs.Table.{entry_in, lefts, rooms, syncs_of, counted, IsCrashed, AreKept, all_calls, all_bytes};
+ghost use Rattle.repl_disk.specs.Table.{entry_in, lefts, rooms, syncs_of, IsCrashed, AreKept, all_calls, all_bytes};
 ghost use Rattle.std.proofs.Props.{props};
 
 use crate::disk::{Disk, Failed, NoMemory};
@@ -118,7 +119,7 @@ impl MemDisk {
         ensures left { (f : ℕ) → lefts self.new.files.items f ≡ lefts self.old.files.items f }
         ensures room { RoomTaken file 0 (rooms self.old.files.items) (rooms self.new.files.items) }
         ensures faults { self.new.faults ≡ self.old.faults }
-        ensures syncs { syncs_of self.new.files.items file ≡ counted (syncs_of self.old.files.items file) }
+        ensures syncs { syncs_of self.new.files.items file ≡ counted_on (syncs_of self.old.files.items file) }
         ensures others { (f : ℕ) → f ≢ file → syncs_of self.new.files.items f ≡ syncs_of self.old.files.items f }
     {
         let Ok(i) = find(&self.files, file) else {

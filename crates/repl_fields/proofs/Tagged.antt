@@ -2,6 +2,7 @@
 use Rattle.std.proofs.Common.{◌≡◌, ◌≢◌, List, ℕ, ◌∷◌, ◌++◌, ◌≤◌, ◌<◌, true, rules, length, Option, Some, None, ap, sym, ◌∙◌}
 use Rattle.std.specs.Prelude.{IsTrue}
 use Rattle.std.specs.Option.{option_map}
+use Rattle.global_defs.specs.declared.limits.TheConstants.{LONGEST_VALUE}
 use Rattle.global_defs.specs.Key.{Key}
 use Rattle.global_defs.specs.Valid.{is_key}
 use Rattle.global_defs.proofs.KeyOrder.{key_injective}
@@ -18,10 +19,10 @@ abbrev pub spelled_key : Key → List ℕ
 spelled_key k = short (encoded k)
 
 abbrev pub IsValue : List ℕ → Type 0
-IsValue v = length v ≤ 1500
+IsValue v = length v ≤ LONGEST_VALUE
 
 abbrev pub IsPair : Key × List ℕ → Type 0
-IsPair u = IsTrue (is_key u.0) × (length u.1 ≤ 1500)
+IsPair u = IsTrue (is_key u.0) × (length u.1 ≤ LONGEST_VALUE)
 
 abbrev pub spelled_pair : Key × List ℕ → List ℕ
 spelled_pair u = short (encoded u.0) ++ long u.1

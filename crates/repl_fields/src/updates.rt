@@ -12,12 +12,10 @@ ghost use Rattle.repl_fields.specs.Reading.{ReadsField};
 
 use super::numbers::read_u8;
 use super::pieces::{read_long, read_short};
+use global_defs::limits::LONGEST_VALUE;
 use gvn_key::terms::Update;
 use gvn_key::{Bytes, Key, NoMemory, is_key};
 use std::alloc::Global;
-
-/// How many bytes a value may have.
-const LONGEST_VALUE: usize = 1500;
 
 /// The key that has these bytes as its encoded form, `None` where no key has them. Keys of the commonest forms are told at once.
 fn decode_key(alloc: Global, code: &[u8]) -> Result<Option<Key>, NoMemory>
@@ -45,7 +43,7 @@ pub fn read_key(alloc: Global, bytes: &[u8]) -> Result<Option<(Key, &[u8])>, NoM
 
 /// A value behind its length, and what follows it.
 pub fn read_value(alloc: Global, bytes: &[u8]) -> Result<Option<(Bytes, &[u8])>, NoMemory>
-    ensures { IfOk result (λ found. ReadsField (λ v. length v ≤ 1500) long bytes.now (option_map (λ p. (p.0, p.1.now)) found)) }
+    ensures { IfOk result (λ found. ReadsField (λ v. length v ≤ LONGEST_VALUE) long bytes.now (option_map (λ p. (p.0, p.1.now)) found)) }
 {
     match read_long(bytes) {
         None => Ok(None),
@@ -60,7 +58,7 @@ pub fn read_value(alloc: Global, bytes: &[u8]) -> Result<Option<(Bytes, &[u8])>,
 
 /// A key and a value, each behind its length, and what follows them.
 fn read_pair(alloc: Global, bytes: &[u8]) -> Result<Option<(Key, Bytes, &[u8])>, NoMemory>
-    ensures { IfOk result (λ found. ReadsField (λ (u : defs.Key × List ℕ). IsTrue (is_key u.0) × (length u.1 ≤ 1500)) (λ u. short (encoded u.0) ++ long u.1)
+    ensures { IfOk result (λ found. ReadsField (λ (u : defs.Key × List ℕ). IsTrue (is_key u.0) × (length u.1 ≤ LONGEST_VALUE)) (λ u. short (encoded u.0) ++ long u.1)
         bytes.now (option_map (λ p. ((p.0, p.1), p.2.now)) found)) }
 {
     let Some((key, rest)) = read_key(alloc, bytes)? else {

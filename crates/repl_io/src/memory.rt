@@ -1,7 +1,7 @@
 // A source and a sink in memory, with lists of the calls that fail.
 ghost use Rattle.std.specs.Prelude.{◌≡◌, ◌<◌, ◌≤◌, ◌-◌, ◌↔◌, min, take, drop, ◌++◌, [], length, IfOk, IsErr, OnOk, OnErr, Some, Contains};
 ghost use Rattle.std.specs.Io.KnownBytes.{ReadConsumes, WriteAppends};
-ghost use Rattle.repl_io.specs.Fault.{HasCause, counted_on};
+ghost use Rattle.global_defs.specs.Counts.{HasCause, counted_on};
 
 use super::stream::{Failed, NoMemory, Sink, Source};
 use std::alloc::Global;

@@ -1,7 +1,7 @@
 // A source and a sink over std's readers and writers.
 ghost use Rattle.std.specs.Prelude.{◌≡◌, ◌<◌, ◌≤◌, length, IfOk, OnOk, OnErr};
 ghost use Rattle.std.specs.Io.KnownBytes.{ReadConsumes, WriteAppends};
-ghost use Rattle.repl_io.specs.Fault.{HasCause, counted_on};
+ghost use Rattle.global_defs.specs.Counts.{HasCause, counted_on};
 
 use super::stream::{Failed, Sink, Source};
 use std::io::{Read, Write};

@@ -1,7 +1,7 @@
 // What a source and a sink are.
 ghost use Rattle.std.specs.Prelude.{◌≡◌, ◌<◌, ◌≤◌, ℕ, List, Option, length, IfOk};
 ghost use Rattle.std.specs.Io.KnownBytes.{ReadConsumes, WriteAppends};
-ghost use Rattle.repl_io.specs.Fault.{HasCause};
+ghost use Rattle.global_defs.specs.Counts.{HasCause};
 
 use std::alloc::AllocError;
 use thiserror::Error;

@@ -1,15 +1,13 @@
 -- What a command of the code stands for.
-use Rattle.std.specs.Prelude.{ℕ, Bool, List, map}
+use Rattle.std.specs.Prelude.{map}
+use Rattle.gvn_model.specs.Regions.{named_region}
 use Rattle.command_defs.specs.Commands as defs
 use Rattle.repl_script.specs.Places.{at_all}
 use Rattle.repl_script.specs.declared.command.Command.{Command}
 use Rattle.repl_script.specs.declared.command.Command.TheVariants as commands
 
-abbrev pub region_value : List ℕ × Bool → defs.Region
-region_value r = record { name = r.0; before = r.1 }
-
 abbrev pub command_value : Command → defs.Command
-command_value (commands.Create site regions) = defs.Create site (map region_value regions)
+command_value (commands.Create site regions) = defs.Create site (map named_region regions)
 command_value commands.Attach = defs.Attach
 command_value (commands.Map site region pattern) = defs.Map site region pattern
 command_value (commands.SetJournal site region before) = defs.SetJournal site region before

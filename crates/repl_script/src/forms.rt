@@ -8,11 +8,10 @@ ghost use Rattle.global_defs.specs.Numeral.{is_whole};
 ghost use Rattle.command_defs.specs.Parts.{is_lettered, is_name, is_digits, number_form, either_form};
 ghost use Rattle.global_defs.specs.Pattern.{is_global_name, is_pattern};
 
-/// How many characters a name may have.
-const LONGEST_NAME: usize = 15;
+use global_defs::limits::LONGEST_SITE_NAME;
 
 /// How many characters a global's name may have.
-const LONGEST_GLOBAL: usize = 31;
+const LONGEST_GLOBAL: usize = global_defs::limits::LONGEST_NAME;
 
 fn all_alphanumeric(bytes: &[u8]) -> bool
     ensures { result ≡ list_all is_ascii_alphanumeric bytes.now }
@@ -34,7 +33,7 @@ fn is_lettered(bytes: &[u8]) -> bool
 pub fn is_name(bytes: &[u8]) -> bool
     ensures { result ≡ is_name bytes.now }
 {
-    is_lettered(bytes) && bytes.len() <= LONGEST_NAME
+    is_lettered(bytes) && bytes.len() <= LONGEST_SITE_NAME
 }
 
 /// Whether these bytes are the name of a global: a percent sign or a letter, and then letters and digits.

@@ -9,20 +9,18 @@ use super::command::Command;
 use super::fault::{Fault, bad};
 use super::parts::{ended, file, mode, name, node, number, pattern, way, word};
 use super::regions::read_regions;
+use global_defs::limits::MOST_CALLS;
 use gvn_key::Bytes;
 use std::alloc::Global;
-
-/// The greatest number of calls that FUSE takes.
-const MOST_CALLS: u64 = 1_000_000;
 
 /// The greatest pick that CRASH takes.
 const MOST_PICK: u64 = 4_294_967_295;
 
 /// The greatest number that EXTRACT and ROLLBACK take.
-const MOST_NUMBER: u64 = 1_099_511_627_776;
+const MOST_NUMBER: u64 = global_defs::limits::NUMBERS_END;
 
 /// The greatest generation that TYPE takes.
-const MOST_GENERATION: u64 = 65_535;
+const MOST_GENERATION: u64 = global_defs::limits::MOST_GENERATIONS as u64;
 
 fn read_create(alloc: Global, len: u16, left: &[u8]) -> Result<Command, Fault>
     ensures reading { Reads command_value (create_reading len left.now) result }

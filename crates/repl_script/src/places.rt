@@ -1,5 +1,6 @@
 // The jobs of all updaters, where the last ones that have none are left out.
 ghost use Rattle.std.specs.Prelude.{◌≡◌, ◌-◌, ◌<◌, ◌≤◌, ◌∷◌, ◌++◌, [], length, get_or, set, replicate, OnOk, OnErr};
+ghost use Rattle.global_defs.specs.declared.limits.TheConstants.{MOST_UPDATERS};
 ghost use Rattle.command_defs.specs.Sections.{last_job, longer};
 ghost use Rattle.gvn_key.specs.Terms.{statement_value};
 ghost use Rattle.gvn_model.specs.Jobs.{job_value};
@@ -19,7 +20,7 @@ pub fn no_jobs(alloc: Global) -> Jobs
 
 /// Makes places for the updaters up to this one, where they are left out.
 fn make_places(alloc: Global, jobs: &mut Jobs, updater: u8) -> Result<(), NoMemory>
-    requires { updater ≤ 64 }
+    requires { updater ≤ MOST_UPDATERS }
     ensures same { at_all jobs.new ≡ at_all jobs.old }
     ensures there { OnOk result (updater ≤ length jobs.new) }
 {
@@ -31,7 +32,7 @@ fn make_places(alloc: Global, jobs: &mut Jobs, updater: u8) -> Result<(), NoMemo
 
 /// Adds a job behind the others of an updater.
 pub fn put_job(alloc: Global, jobs: &mut Jobs, updater: u8, job: Job) -> Result<(), NoMemory>
-    requires { (0 < updater) × (updater ≤ 64) }
+    requires { (0 < updater) × (updater ≤ MOST_UPDATERS) }
     ensures jobs { OnOk result (at_all jobs.new ≡ set (at_all jobs.old) (updater - 1) (get_or (at_all jobs.old) (updater - 1) [] ++ job_value job ∷ [])) }
     ensures kept { OnErr result (at_all jobs.new ≡ at_all jobs.old) }
 {

@@ -2,9 +2,9 @@
 ghost use Rattle.std.specs.Prelude.{◌≡◌, ◌≤◌, ◌++◌, ◌∷◌, [], true, length, map, IfOk, OnOk};
 ghost use Rattle.std.specs.List.{list_all, list_any, IsDistinct};
 ghost use Rattle.std.specs.Str.{bytes_eq};
+ghost use Rattle.gvn_model.specs.Regions.{named_region};
 ghost use Rattle.command_defs.specs.Commands.{region_named, region_form, regions_behind, regions_reading};
 ghost use Rattle.command_defs.specs.Parts.{taken, is_name};
-ghost use Rattle.repl_script.specs.Commands.{region_value};
 ghost use Rattle.repl_script.specs.Reads.{Reads};
 
 use super::fault::{Fault, bad};
@@ -15,14 +15,14 @@ use gvn_model::NamedModes;
 use std::alloc::Global;
 
 /// How many regions a site may have.
-const MOST_REGIONS: usize = 8;
+const MOST_REGIONS: usize = global_defs::limits::MOST_REGIONS as usize;
 
 /// What stands behind the name of a region whose journal has no before-images.
 const NO_IMAGES: &[u8] = b":NOBEFORE";
 
 /// Whether one of these regions has that name.
 fn is_among(regions: &[(Bytes, bool)], name: &[u8]) -> bool
-    ensures { result ≡ list_any (λ r. bytes_eq r.name name.now) (map region_value regions.now) }
+    ensures { result ≡ list_any (λ r. bytes_eq r.name name.now) (map named_region regions.now) }
 {
     for (region, _) in regions {
         if region.as_slice() == name {
@@ -34,7 +34,7 @@ fn is_among(regions: &[(Bytes, bool)], name: &[u8]) -> bool
 
 /// What a part names as a region: its name, and whether its journal has before-images.
 fn region_named(part: &[u8]) -> (&[u8], bool)
-    ensures { region_value (result.0.now, result.1) ≡ region_named part.now }
+    ensures { named_region (result.0.now, result.1) ≡ region_named part.now }
 {
     match part.strip_suffix(NO_IMAGES) {
         Some(name) => (name, false),
@@ -55,7 +55,7 @@ struct Named<'a> {
 
 /// A region with a name that none of these has.
 fn region<'a>(among: &[(Bytes, bool)], len: u16, left: &'a [u8]) -> Result<Named<'a>, Fault>
-    ensures { Reads (λ named. (region_value (named.name.now, named.before), named.behind.now)) (taken (region_form (map region_value among.now)) len left.now) result }
+    ensures { Reads (λ named. (named_region (named.name.now, named.before), named.behind.now)) (taken (region_form (map named_region among.now)) len left.now) result }
 {
     let cut = cut_part(left);
     let (name, before) = region_named(cut.part);
@@ -76,7 +76,7 @@ fn add_region(
     name: &[u8],
     before: bool,
 ) -> Result<(), NoMemory>
-    ensures { OnOk result (map region_value regions.new ≡ map region_value regions.old ++ region_value (name.now, before) ∷ []) }
+    ensures { OnOk result (map named_region regions.new ≡ map named_region regions.old ++ named_region (name.now, before) ∷ []) }
 {
     regions.push((Bytes::of(alloc, name)?, before))?;
     Ok(())
@@ -89,7 +89,7 @@ fn more_regions(
     len: u16,
     left: &[u8],
 ) -> Result<NamedModes, Fault>
-    ensures { Reads (λ all. map region_value all) (regions_behind 7 len left.now (map region_value regions)) result }
+    ensures { Reads (λ all. map named_region all) (regions_behind 7 len left.now (map named_region regions)) result }
 {
     let mut rest = left;
     for _count in 1..MOST_REGIONS {
@@ -106,11 +106,11 @@ fn more_regions(
 
 /// One to eight regions of different names.
 pub fn read_regions(alloc: Global, len: u16, left: &[u8]) -> Result<NamedModes, Fault>
-    ensures reading { Reads (λ regions. map region_value regions) (regions_reading len left.now) result }
-    ensures names { IfOk result (λ regions. list_all (λ r. is_name r.name) (map region_value regions) ≡ true) }
-    ensures some { IfOk result (λ regions. 1 ≤ length (map region_value regions)) }
-    ensures few { IfOk result (λ regions. length (map region_value regions) ≤ 8) }
-    ensures different { IfOk result (λ regions. IsDistinct bytes_eq (map (λ r. r.name) (map region_value regions))) }
+    ensures reading { Reads (λ regions. map named_region regions) (regions_reading len left.now) result }
+    ensures names { IfOk result (λ regions. list_all (λ r. is_name r.name) (map named_region regions) ≡ true) }
+    ensures some { IfOk result (λ regions. 1 ≤ length (map named_region regions)) }
+    ensures few { IfOk result (λ regions. length (map named_region regions) ≤ 8) }
+    ensures different { IfOk result (λ regions. IsDistinct bytes_eq (map (λ r. r.name) (map named_region regions))) }
 {
     let first = region(&[], len, left)?;
     let mut regions = NamedModes::new(alloc);

@@ -2,7 +2,7 @@
 ghost use Rattle.std.specs.Prelude.{◌≡◌, ◌+◌, ◌≤◌, ◌<◌, ◌↔◌, length, IfOk, IfErr, OnOk, OnErr, IfSome, IfNone};
 ghost use Rattle.command_defs.specs.Commands.{Run, IsFormed, IsWhole};
 ghost use Rattle.command_defs.specs.Sections.{Section};
-ghost use Rattle.command_defs.specs.Script.{Outside, Within, Ends, outside_reading, reading_at, line_reading, MOST_LINES};
+ghost use Rattle.command_defs.specs.Script.{Outside, Within, Ends, outside_reading, reading_at, line_reading};
 ghost use Rattle.repl_script.specs.Commands.{command_value};
 ghost use Rattle.repl_script.specs.Feeds.{Moves, TellsBad, EndsAs, Feeds};
 
@@ -12,15 +12,10 @@ use super::fault::Fault;
 use super::orders::{read_command, read_run};
 use super::parts::{cut_part, trimmed, without_spaces};
 use super::section::Section;
+use global_defs::limits::{LONGEST_LINE, MOST_LINES};
 use gvn_key::Bytes;
 use std::alloc::Global;
 use std::marker::Model;
-
-/// How many lines a script may have.
-const MOST_LINES: u32 = 100_000;
-
-/// How many bytes a line may have.
-const LONGEST_LINE: usize = 4096;
 
 /// Takes the lines of a script one after another and gives its commands. It's seen as where the next line stands, between
 /// commands or in a section, and how many lines it took.
@@ -34,14 +29,14 @@ pub struct Script {
 
 impl Model for Script {
     ghost use Rattle.std.specs.Prelude.{◌≤◌};
-    ghost use Rattle.command_defs.specs.Script as script;
+    ghost use Rattle.global_defs.specs.declared.limits.TheConstants.{MOST_LINES};
     ghost use Rattle.repl_script.specs.Feeds as feeds;
 
     ghost Value = { feeds.Progress };
 
     ghost view = { λ s. record { position = feeds.position_of s.section; lines = s.lines } };
 
-    ghost invariant = { λ s. s.lines ≤ script.MOST_LINES };
+    ghost invariant = { λ s. s.lines ≤ MOST_LINES };
 }
 
 impl Script {

@@ -1,6 +1,7 @@
 // Sections that aren't ended.
 ghost use Rattle.std.specs.Prelude.{◌≡◌, ◌+◌, ◌-◌, ◌&&◌, ◌<◌, ◌≤◌, ◌∷◌, ◌++◌, [], true, false, length, map, take, drop, get_or, set, replicate, count_by, nat_le, codes, IfOk, OnOk, OnErr};
 ghost use Rattle.std.specs.List.{list_any};
+ghost use Rattle.global_defs.specs.declared.limits.TheConstants.{MOST_UPDATERS};
 ghost use Rattle.gvn_key.specs.Terms.{statement_value};
 ghost use Rattle.gvn_model.specs.Jobs.{job_value};
 ghost use Rattle.gvn_text.specs.Reads as texts;
@@ -19,6 +20,7 @@ use super::command::Command;
 use super::fault::{Fault, bad, column};
 use super::parts::{cut_part, ended, number};
 use super::places::{last_of, no_jobs, put_job, put_statement};
+use global_defs::limits::MOST_STATEMENTS;
 use gvn_key::terms::Statement;
 use gvn_key::{Bytes, NoMemory};
 use gvn_model::{Job, Jobs, Statements};
@@ -27,13 +29,10 @@ use std::alloc::Global;
 use std::marker::Model;
 
 /// How many updaters there are.
-const UPDATERS: u64 = 64;
-
-/// How many statements a transaction may have.
-const MOST_STATEMENTS: usize = 1024;
+const UPDATERS: u64 = global_defs::limits::MOST_UPDATERS as u64;
 
 /// How many of them may be updates.
-const MOST_UPDATES: usize = 256;
+const MOST_UPDATES: usize = global_defs::limits::MOST_UPDATES as usize;
 
 /// What a good line of a section is.
 #[derive(Drop)]
@@ -91,7 +90,7 @@ fn is_any_open(opened: &[bool; 64]) -> bool
 
 /// Adds a job behind the others of an updater, and the updater to the order.
 fn add_job(jobs: &mut Jobs, order: &mut Bytes, updater: u8, job: Job) -> Result<(), NoMemory>
-    requires { (0 < updater) × (updater ≤ 64) }
+    requires { (0 < updater) × (updater ≤ MOST_UPDATERS) }
     ensures jobs { OnOk result (at_all jobs.new ≡ set (at_all jobs.old) (updater - 1) (get_or (at_all jobs.old) (updater - 1) [] ++ job_value job ∷ [])) }
     ensures order { OnOk result (order.new ≡ order.old ++ updater ∷ []) }
     ensures jobs_kept { OnErr result (at_all jobs.new ≡ at_all jobs.old) }

@@ -4,6 +4,7 @@ use Rattle.std.proofs.lemmas.Bool.{lt-ltb, le-ltb, eqb-true, eqb-false, cases_lt
 use Rattle.std.proofs.lemmas.List.{take_all}
 use Rattle.std.proofs.Math.Seq.{take-length, take-append_seam}
 use Rattle.std.specs.Prelude.{Option, IfSome, IsSome}
+use Rattle.global_defs.specs.declared.limits.TheConstants.{NUMBERS_END}
 use Rattle.gvn_model.specs.declared.reign.Stamp.{Stamp as Stamped}
 use Rattle.disk_defs.specs.Disk.{View, Files, Image}
 use Rattle.global_defs.specs.Entry.{Update, Stamp, Transaction, Entry, Sequence}
@@ -47,13 +48,13 @@ else_turn true t u e = absurd (cc e)
 else_turn false t u e = refl
 
 -- updates become the next entry
-pub appended_is : (stamp : Stamp) (serials : List ℕ) (seq : Sequence) (u : ℕ) (us : List Update) (answers : Answers) → 1 ≤ length us → length seq + 1 < 2 ^ 40
+pub appended_is : (stamp : Stamp) (serials : List ℕ) (seq : Sequence) (u : ℕ) (us : List Update) (answers : Answers) → 1 ≤ length us → length seq + 1 < NUMBERS_END
     → outcome stamp serials seq u (Done us answers) ≡ replied (begun serials [] seq) u (Seq (length seq + 1) answers) (seq ++ entry_of stamp u (serial_at serials u) us ∷ [])
 appended_is stamp serials seq u [] answers some room = absurd (omega (arith, some))
 appended_is stamp serials seq u (x ∷ xs) answers some room = then_turn (nat_lt (length seq) MOST_ENTRIES) _ _ (lt-ltb (length seq) MOST_ENTRIES (omega (arith, room)))
 
 -- but where there is no number left
-pub limited_is : (stamp : Stamp) (serials : List ℕ) (seq : Sequence) (u : ℕ) (us : List Update) (answers : Answers) → 1 ≤ length us → 2 ^ 40 ≤ length seq + 1
+pub limited_is : (stamp : Stamp) (serials : List ℕ) (seq : Sequence) (u : ℕ) (us : List Update) (answers : Answers) → 1 ≤ length us → NUMBERS_END ≤ length seq + 1
     → outcome stamp serials seq u (Done us answers) ≡ replied (begun serials [] seq) u (RolledBack SeqLimit) seq
 limited_is stamp serials seq u [] answers some room = absurd (omega (arith, some))
 limited_is stamp serials seq u (x ∷ xs) answers some room = else_turn (nat_lt (length seq) MOST_ENTRIES) _ _ (le-ltb (length seq) MOST_ENTRIES (omega (arith, room)))
@@ -104,11 +105,11 @@ pub with_it_perhaps : (w : View) (c : Contents) (e : Entry) → IsSome w.content
 with_it_perhaps w c e told fronts = record { told = told; images = λ f i. let front = fronts f i in with_it_or_not f c front.0 e front.1 front.2 }
 
 -- what the committed job comes to
-pub committed : {D : Type 0} → (stamp : Stamp) (r : Reign D) (seq : Sequence) (u : ℕ) (us : List Update) (answers : Answers) → count_of (memory_of r.site) ≡ length seq → 1 ≤ length us → count_of (memory_of r.site) + 1 < 2 ^ 40
+pub committed : {D : Type 0} → (stamp : Stamp) (r : Reign D) (seq : Sequence) (u : ℕ) (us : List Update) (answers : Answers) → count_of (memory_of r.site) ≡ length seq → 1 ≤ length us → count_of (memory_of r.site) + 1 < NUMBERS_END
     → outcome stamp r.serials seq u (Done us answers) ≡ replied (begun r.serials [] seq) u (Seq (length seq + 1) answers) (seq ++ entry_of stamp u (serial_at r.serials u) us ∷ [])
 committed stamp r seq u us answers h some room = appended_is stamp r.serials seq u us answers some (omega (arith, h, room))
 
-pub commit_appends : {D : Type 0} → (stamp : Stamp) (r : Reign D) (seq : Sequence) (u : ℕ) (us : List Update) (answers : Answers) → count_of (memory_of r.site) ≡ length seq → 1 ≤ length us → count_of (memory_of r.site) + 1 < 2 ^ 40 → Appends seq (outcome stamp r.serials seq u (Done us answers))
+pub commit_appends : {D : Type 0} → (stamp : Stamp) (r : Reign D) (seq : Sequence) (u : ℕ) (us : List Update) (answers : Answers) → count_of (memory_of r.site) ≡ length seq → 1 ≤ length us → count_of (memory_of r.site) + 1 < NUMBERS_END → Appends seq (outcome stamp r.serials seq u (Done us answers))
 commit_appends stamp r seq u us answers h some room = subst (Appends seq) (sym (committed stamp r seq u us answers h some room)) (record {
   entry = entry_of stamp u (serial_at r.serials u) us;
   sequence = refl;
@@ -118,7 +119,7 @@ commit_appends stamp r seq u us answers h some room = subst (Appends seq) (sym (
 })
 
 pub commit_done : {D : Type 0} (view : D → View) (told : Bool) (c : Contents) (h : ℕ) (r m s : Reign D) (u serial number : ℕ) (us : List Update) (answers : Answers) (d : Replied)
-    → IsOpen (view (disk_of r.site)) told c h (memory_of r.site) → HasReign (memory_of r.site) → 1 ≤ length us → count_of (memory_of r.site) + 1 < 2 ^ 40 → serial ≡ serial_at r.serials u → number ≡ count_of (memory_of r.site) + 1
+    → IsOpen (view (disk_of r.site)) told c h (memory_of r.site) → HasReign (memory_of r.site) → 1 ≤ length us → count_of (memory_of r.site) + 1 < NUMBERS_END → serial ≡ serial_at r.serials u → number ≡ count_of (memory_of r.site) + 1
     → IsOpen (view (disk_of m.site)) told (with_entry (memory_of r.site).stamp (record { origin = record { updater = u; serial = serial }; updates = us }) c) h (memory_of m.site) → m.serials ≡ r.serials
     → s ≡ record m { serials = s.serials } → s.serials ≡ set m.serials (u - 1) (serial + 1) → d ≡ record { updater = u; serial = serial; reply = Seq number answers }
     → ComesTo (view (disk_of s.site)) told c h (outcome (stamp_of r) r.serials c.sequence u (Done us answers)) s d

@@ -6,12 +6,13 @@ use Rattle.std.proofs.Math.Seq.{take-length}
 use Rattle.std.proofs.lemmas.Bool.{ltb-false, cases_lt}
 use Rattle.std.proofs.lemmas.List.{take-append-le, take_all}
 use Rattle.std.proofs.lemmas.List.Sums.{fold-append}
+use Rattle.global_defs.specs.declared.limits.TheConstants.{MOST_NODES}
 use Rattle.global_defs.specs.Numeral.{integer_text, is_counted}
 use Rattle.global_defs.specs.Key.{Key}
 use Rattle.global_defs.specs.Entry.{Update, Globals, apply}
 use Rattle.global_defs.specs.Entry as update
 use Rattle.global_defs.specs.Jobs.{Statement, Set, Kill, ZKill, Incr, Get, Defined, Order, CheckIs, CheckAtLeast, Job, Full, NotNum}
-use Rattle.global_defs.specs.Evaluation.{MOST_NODES, Progress, Outcome, Goes, Stops, answering, updating, incrementing, incremented, passing, comparing, counted, stepping, going, eval}
+use Rattle.global_defs.specs.Evaluation.{Progress, Outcome, Goes, Stops, answering, updating, incrementing, incremented, passing, comparing, counted, stepping, going, eval}
 use Rattle.repl_section.specs.Deciding.{FitsIn}
 
 -- after each of these updates there are few enough nodes

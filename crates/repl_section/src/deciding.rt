@@ -1,5 +1,6 @@
 //! Deciding one job.
 ghost use Rattle.std.specs.Prelude.{◌≡◌, ◌≤◌, ◌<◌, ◌+◌, ◌-◌, ◌^◌, ℕ, Bool, true, length, set, IfOk, IfSome, OnOk, IsErrOf};
+ghost use Rattle.global_defs.specs.declared.limits.TheConstants.{NUMBERS_END};
 ghost use Rattle.disk_defs.specs.Disk.{MayFailUncounted};
 ghost use Rattle.global_defs.specs.Fields.{IsOrigin};
 ghost use Rattle.global_defs.specs.Evaluation.{eval};
@@ -19,16 +20,14 @@ use crate::decision::Decision;
 use crate::error::DecideError;
 use crate::fitting::all_fit;
 use crate::reign::Reign;
+use global_defs::limits::MOST_UPDATERS;
 use gvn_eval::eval_owned;
 use gvn_model::{Answers, Cause, Evaluated, Job, Origin, Reply, Transaction, Updates};
 use repl_disk::Disk;
 use std::alloc::Global;
 
-/// Updaters are numbered from 1 to this.
-const LAST_UPDATER: u8 = 64;
-
 /// The number of the last entry that there may be.
-const LAST_NUMBER: u64 = 0xff_ffff_ffff;
+const LAST_NUMBER: u64 = global_defs::limits::NUMBERS_END - 1;
 
 impl<D: Disk> Reign<D> {
     /// The origin of an updater's next job, where there is such an updater and such a serial.
@@ -37,7 +36,7 @@ impl<D: Disk> Reign<D> {
         ensures serial { IfSome result (λ o. o.serial ≡ serial_at self.now.serials updater) }
         ensures valid { IfSome result (λ o. IsOrigin (origin_value o)) }
     {
-        if updater == 0 || LAST_UPDATER < updater {
+        if updater == 0 || MOST_UPDATERS < updater {
             return None;
         }
         let serial = self.serials[usize::from(updater - 1)];
@@ -73,7 +72,7 @@ impl<D: Disk> Reign<D> {
         requires origin { IsOrigin (origin_value origin) }
         requires serial { origin.serial ≡ serial_at self.old.serials origin.updater }
         requires some { 1 ≤ length updates }
-        requires room { count_of (memory_of self.old.site) + 1 < 2 ^ 40 }
+        requires room { count_of (memory_of self.old.site) + 1 < NUMBERS_END }
         requires nodes { HasRoomFor (joined (memory_of self.old.site).globals) updates }
         ensures ready { OnOk result (IsGoing D.disk self.new.site) }
         ensures reign { OnOk result (HasReign (memory_of self.new.site)) }

@@ -1,5 +1,6 @@
 //! Giving the site entries.
 ghost use Rattle.std.specs.Prelude.{◌≡◌, ◌<◌, ◌+◌, ◌^◌, ℕ, Bool, true, IfOk, OnOk, IsErrOf, IsSome};
+ghost use Rattle.global_defs.specs.declared.limits.TheConstants.{NUMBERS_END};
 ghost use Rattle.disk_defs.specs.Disk.{Files, Image, MayFailUncounted};
 ghost use Rattle.global_defs.specs.Fields.{IsTransaction};
 ghost use Rattle.gvn_model.specs.Entries.{transaction_value};
@@ -25,7 +26,7 @@ impl<D: Disk> Reign<D> {
         requires ready { IsGoing D.disk self.old.site }
         requires reign { HasReign (memory_of self.old.site) }
         requires form { IsTransaction (transaction_value t) }
-        requires room { count_of (memory_of self.old.site) + 1 < 2 ^ 40 }
+        requires room { count_of (memory_of self.old.site) + 1 < NUMBERS_END }
         requires nodes { HasRoomFor (joined (memory_of self.old.site).globals) t.updates }
         ensures ready { OnOk result (IsGoing D.disk self.new.site) }
         ensures reign { OnOk result (HasReign (memory_of self.new.site)) }

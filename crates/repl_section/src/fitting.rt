@@ -4,14 +4,12 @@ ghost use Rattle.std.specs.List.{AllByRecursion};
 ghost use Rattle.global_defs.specs.Fields.{IsUpdate};
 ghost use Rattle.gvn_key.specs.Terms.{update_value};
 
+use global_defs::limits::LONGEST_VALUE;
 use gvn_key::terms::Update;
 use gvn_model::Updates;
 
-/// How many bytes a value may have.
-const LONGEST_VALUE: usize = 1500;
-
 /// How many updates a transaction may have.
-const MOST_UPDATES: usize = 256;
+const MOST_UPDATES: usize = global_defs::limits::MOST_UPDATES as usize;
 
 /// Whether a journal's record may hold an update. Each key that there is has a code, which isn't empty.
 fn fits(update: &Update) -> bool

@@ -2,6 +2,7 @@
 use Rattle.std.proofs.Common.{◌≡◌, ℕ, zero, suc, ◌+◌, ◌-◌, ◌*◌, ◌^◌, ◌<◌, ◌≤◌, List, [], ◌∷◌, length, Bool, true, false, nat_eq, refl, sym, ap, ◌∙◌, subst, arith, length-append, inl, inr}
 use Rattle.std.specs.Prelude.{◌⊎◌, ◌==◌, if◌then◌else◌}
 use Rattle.std.proofs.lemmas.Bool.{cases_eq, ne_eqb, eq-eqb}
+use Rattle.global_defs.specs.declared.limits.TheConstants.{LONGEST_BODY, LONGEST_VALUE, MOST_UPDATES, NUMBERS_END}
 use Rattle.gvn_key.proofs.Taking.{code_length}
 use Rattle.gvn_key.specs.Codes.{IsCode}
 use Rattle.gvn_key.specs.Rests.{IsAt}
@@ -30,7 +31,7 @@ fresh missing low high = record { value = 0; missing = missing; low = low; high 
 pub awaits : (part : Part) (left items : ℕ) (K : Rest) → Fits part left items → Same (Accepts part left items) K → Awaits (scan part left items) K
 awaits part left items K fits same = record { sound = fits; only = same.to; each = same.back }
 
-pub fresh_open : (missing low high : ℕ) → 1 ≤ missing → missing ≤ 8 → low ≤ high → high ≤ 2 ^ 40 → low < unit missing → IsOpen (fresh missing low high)
+pub fresh_open : (missing low high : ℕ) → 1 ≤ missing → missing ≤ 8 → low ≤ high → high ≤ NUMBERS_END → low < unit missing → IsOpen (fresh missing low high)
 fresh_open missing low high some few bounds small reach = record {
   met = record { not_past = omega arith; reaches = omega arith; bounds = bounds; small = small };
   some = some;
@@ -57,7 +58,7 @@ reign_count_awaited left l low high e some a b c d = awaits (Number number.Reign
     same : (n : ℕ) → Same (Within low high (λ m. Sized (Reigned m) l) n) (Sized (Reigned n) l)
     same n = record { to = λ w h. h.2; back = λ w h. let r = reigned_length n w h.0 in let s = h.1 in (omega (arith, r.1, s), omega (arith, r.0, s), h) }
 
-pub update_count_awaited : (left l low high : ℕ) → left ≡ 2 + l → 6 ≤ left → left ≤ 450306 → l ≤ 1759 * low → 1759 * low < l + 1759 → 4 * high ≤ l → high ≤ 256 → ((n : ℕ) → 4 * n ≤ l → n ≤ 256 → n ≤ high)
+pub update_count_awaited : (left l low high : ℕ) → left ≡ 2 + l → 6 ≤ left → left ≤ 450306 → l ≤ 1759 * low → 1759 * low < l + 1759 → 4 * high ≤ l → high ≤ MOST_UPDATES → ((n : ℕ) → 4 * n ≤ l → n ≤ 256 → n ≤ high)
     → Awaits (scan (Number number.UpdateCount (fresh 2 low high)) l 0) (Sized UpdateCount left)
 update_count_awaited left l low high e least most a b c d top = awaits (Number number.UpdateCount (fresh 2 low high)) l 0 (Sized UpdateCount left)
     (fresh_open 2 low high (omega arith) (omega arith) (top low (omega arith) (omega arith)) (omega arith) (omega arith), (c, a, omega arith, d))
@@ -67,16 +68,16 @@ update_count_awaited left l low high e least most a b c d top = awaits (Number n
     same n = within_same 1 256 low high l Updated (λ m. Sized (Updated m) l) n (omega arith) d (sized_same (Updated n) l)
         (λ w one most u s. let r = updated_length n w u in (omega (arith, r.1, s), top n (omega (arith, r.0, s)) most))
 
-pub value_awaited : (left l items low high : ℕ) → left ≡ 2 + l → HoldsUpdates 2 1502 items left → l ≤ low + 1759 * items → (low ≡ 0) ⊎ (low + 1759 * items ≡ l) → high + 4 * items ≤ l → high ≤ 1500
-    → ((n : ℕ) → n + 4 * items ≤ l → n ≤ 1500 → n ≤ high) → Awaits (scan (Number number.ValueLength (fresh 2 low high)) l items) (Sized (Valued (Updated items)) left)
+pub value_awaited : (left l items low high : ℕ) → left ≡ 2 + l → HoldsUpdates 2 1502 items left → l ≤ low + 1759 * items → (low ≡ 0) ⊎ (low + 1759 * items ≡ l) → high + 4 * items ≤ l → high ≤ LONGEST_VALUE
+    → ((n : ℕ) → n + 4 * items ≤ l → n ≤ LONGEST_VALUE → n ≤ high) → Awaits (scan (Number number.ValueLength (fresh 2 low high)) l items) (Sized (Valued (Updated items)) left)
 value_awaited left l items low high e holds a zeroed b c top = awaits (Number number.ValueLength (fresh 2 low high)) l items (Sized (Valued (Updated items)) left)
     (fresh_open 2 low high (omega arith) (omega arith) bounds (omega arith) (omega (arith, bounds)), (b, a, c))
-    (number_same left l 2 (Within 0 1500 (λ n. Skipped n (Updated items))) (Within low high (λ n. Sized (Skipped n (Updated items)) l)) same e)
+    (number_same left l 2 (Within 0 LONGEST_VALUE (λ n. Skipped n (Updated items))) (Within low high (λ n. Sized (Skipped n (Updated items)) l)) same e)
   where
     bounds : low ≤ high
     bounds = elim zeroed as (λ _. low ≤ high) [ inl z ↦ omega arith | inr z ↦ top low (omega (arith, holds.0)) (omega (arith, holds.1)) ]
 
-    same : (n : ℕ) → Same (Within low high (λ m. Sized (Skipped m (Updated items)) l) n) (Sized (Within 0 1500 (λ m. Skipped m (Updated items)) n) l)
+    same : (n : ℕ) → Same (Within low high (λ m. Sized (Skipped m (Updated items)) l) n) (Sized (Within 0 LONGEST_VALUE (λ m. Skipped m (Updated items)) n) l)
     same n = within_same 0 1500 low high l (λ m. Skipped m (Updated items)) (λ m. Sized (Skipped m (Updated items)) l) n (omega arith) c (sized_same (Skipped n (Updated items)) l)
         (λ w _ most u s. let r = skipped_length n (Updated items) (4 * items) (1759 * items) (updated_length items) w u in (above n (omega (arith, r.1, s)), top n (omega (arith, r.0, s)) most))
       where
@@ -133,7 +134,7 @@ key_awaited set prefix n left behind items at some e fits = awaits (Key set pref
 
 -- lengths that leave no room
 
-pub site_fits : (n left : ℕ) (w : List ℕ) → left ≤ 1048576 → Sized (Sited n) left w → SiteFits n left
+pub site_fits : (n left : ℕ) (w : List ℕ) → left ≤ LONGEST_BODY → Sized (Sited n) left w → SiteFits n left
 site_fits n left w small h =
     let s = h.1 in
     let b = behind_named n w h.0.2 in
@@ -193,17 +194,17 @@ alone_fits w low high h =
     let z : length d.rest ≡ 0 = ap length d.holds.2 in
     (omega (arith, d.sizes), omega (arith, d.sizes))
 
-pub body_fits : (kind : Kind) (w : List ℕ) → length w ≤ 1048576 → Body kind w → (least_body kind ≤ length w) × (length w ≤ most_body kind)
+pub body_fits : (kind : Kind) (w : List ℕ) → length w ≤ LONGEST_BODY → Body kind w → (least_body kind ≤ length w) × (length w ≤ most_body kind)
 body_fits Hello [] small h = absurd h
 body_fits Hello (v ∷ []) small h = absurd h.2
 body_fits Hello (v ∷ n ∷ w) small h =
     let s = site_fits n (length w) w (omega arith) (h.2, refl) in
     (elim s.3.0 as (λ _. 15 ≤ length (v ∷ n ∷ w)) [ inl z ↦ omega (arith, s.0) | inr z ↦ omega (arith, s.0) ], small)
-body_fits Resume w small h = alone_fits w 1 (2 ^ 40) h
-body_fits RollbackFirst w small h = alone_fits w 1 (2 ^ 40 - 1) h
+body_fits Resume w small h = alone_fits w 1 NUMBERS_END h
+body_fits RollbackFirst w small h = alone_fits w 1 (NUMBERS_END - 1) h
 body_fits History w small h = let b = reigned_length 1 w h in (omega (arith, b.0), omega (arith, b.1))
 body_fits Entry w small h =
-    let d = behind_number 8 0 (Within 1 (2 ^ 40 - 1) (λ _. One Updater)) w h in
+    let d = behind_number 8 0 (Within 1 (NUMBERS_END - 1) (λ _. One Updater)) w h in
     let u = updater_fits d.rest d.holds.2 in
     (omega (arith, d.sizes, u.0), omega (arith, d.sizes, u.1))
   where
@@ -216,18 +217,18 @@ body_fits Entry w small h =
         let low = e.holds.0 in
         let high = e.holds.1 in
         (omega (arith, d.sizes, e.sizes, u.0, low), omega (arith, d.sizes, e.sizes, u.1, high))
-body_fits Bye w small h = alone_fits w 0 (2 ^ 40 - 1) h
+body_fits Bye w small h = alone_fits w 0 (NUMBERS_END - 1) h
 
 pub bodied_awaited : (kind : Kind) (least most : ℕ) → least ≡ least_body kind → most ≡ most_body kind → Awaits (scan (Number (number.BodyLength kind) (fresh 4 least most)) 0 0) (Bodied kind)
 bodied_awaited kind least most is_least is_most = awaits (Number (number.BodyLength kind) (fresh 4 least most)) 0 0 (Bodied kind)
     (fresh_open 4 least most (omega arith) (omega arith) (omega (arith, order.0)) (omega (arith, order.1)) (omega (arith, order.0, order.1)), (omega arith, omega arith))
     (record {
-      to = numbered_map 4 0 (Within least most (λ n. Sized (Body kind) n)) (Within 0 1048576 (λ n. Sized (Body kind) n)) (λ n w h. let high = h.1 in (omega arith, omega (arith, order.1), h.2));
-      back = numbered_map 4 0 (Within 0 1048576 (λ n. Sized (Body kind) n)) (Within least most (λ n. Sized (Body kind) n))
+      to = numbered_map 4 0 (Within least most (λ n. Sized (Body kind) n)) (Within 0 LONGEST_BODY (λ n. Sized (Body kind) n)) (λ n w h. let high = h.1 in (omega arith, omega (arith, order.1), h.2));
+      back = numbered_map 4 0 (Within 0 LONGEST_BODY (λ n. Sized (Body kind) n)) (Within least most (λ n. Sized (Body kind) n))
           (λ n w h. let s = h.2.1 in let high = h.1 in let f = body_fits kind w (omega arith) h.2.0 in (omega (arith, f.0), omega (arith, f.1), h.2));
     })
   where
-    ordered : (kind : Kind) → (least_body kind ≤ most_body kind) × (most_body kind ≤ 1048576)
+    ordered : (kind : Kind) → (least_body kind ≤ most_body kind) × (most_body kind ≤ LONGEST_BODY)
     ordered Hello = (omega arith, omega arith)
     ordered Resume = (omega arith, omega arith)
     ordered RollbackFirst = (omega arith, omega arith)
@@ -235,7 +236,7 @@ bodied_awaited kind least most is_least is_most = awaits (Number (number.BodyLen
     ordered Entry = (omega arith, omega arith)
     ordered Bye = (omega arith, omega arith)
 
-    order : (least_body kind ≤ most_body kind) × (most_body kind ≤ 1048576)
+    order : (least_body kind ≤ most_body kind) × (most_body kind ≤ LONGEST_BODY)
     order = ordered kind
 
 kind_of : ℕ → Kind

@@ -5,6 +5,7 @@ use Rattle.std.specs.Int.{to_be_bytes, w16, w32, w64, bytes_high_first}
 use Rattle.std.specs.List.{flat_map, list_all, AllByRecursion}
 use Rattle.std.specs.Char.{is_ascii_alphanumeric}
 use Rattle.std.proofs.lemmas.Bool.{and_parts, and_from, cases_eq, ne_eqb}
+use Rattle.global_defs.specs.declared.limits.TheConstants.{LONGEST_BODY, LONGEST_VALUE, NUMBERS_END}
 use Rattle.global_defs.specs.Key.{Key}
 use Rattle.global_defs.specs.Entry.{Update, Set, Kill, ZKill, Reign}
 use Rattle.global_defs.specs.Encoded.{encoded}
@@ -62,7 +63,7 @@ reign_from K [] h = absurd h
 reign_from K (n ∷ w) h =
     let a = name_from n (Cycling K) w h.0 h.1 h.2 in
     let b = spelt_from 4 0 (Within 1 (2 ^ 32 - 1) (λ _. Starting K)) a.rest a.holds in
-    let c = spelt_from 8 0 (Within 1 (2 ^ 40) (λ _. K)) b.rest b.holds.2 in
+    let c = spelt_from 8 0 (Within 1 NUMBERS_END (λ _. K)) b.rest b.holds.2 in
     record {
       value = record { stamp = record { root = a.value; cycle = b.number }; start = c.number };
       rest = c.rest;
@@ -79,7 +80,7 @@ reign_to K r rest f h = subst (λ (w : List ℕ). One (Rooted K) w) (sym (groupe
     (let cycle = f.stamp.cycle in
     let start = f.start in
     spelt_to 4 0 r.stamp.cycle (Within 1 (2 ^ 32 - 1) (λ _. Starting K)) (to_be_bytes w64 r.start ++ rest) (omega arith) (omega (arith, cycle.1))
-    (cycle.0, omega (arith, cycle.1), spelt_to 8 0 r.start (Within 1 (2 ^ 40) (λ _. K)) rest (omega arith) (omega (arith, start.1)) (start.0, start.1, h))))
+    (cycle.0, omega (arith, cycle.1), spelt_to 8 0 r.start (Within 1 NUMBERS_END (λ _. K)) rest (omega arith) (omega (arith, start.1)) (start.0, start.1, h))))
 
 pub reigns_from : (count : ℕ) (w : List ℕ) → Reigned count w → (rs : List Reign) × AllByRecursion IsReign rs × (length rs ≡ count) × (w ≡ flat_map spelled_reign rs)
 reigns_from zero w h = ([], tt, refl, h)
@@ -106,7 +107,7 @@ value_to (b ∷ s) K rest h = value_to s K rest h
 set_from : (n : ℕ) (K : Rest) (w : List ℕ) → Keyed true K n w → Spelled IsUpdate spelled_update K (1 ∷ n ∷ w)
 set_from n K w h =
     let code = h.here in
-    let v = spelt_from 2 0 (Within 0 1500 (λ m. Skipped m K)) h.back h.there in
+    let v = spelt_from 2 0 (Within 0 LONGEST_VALUE (λ m. Skipped m K)) h.back h.there in
     let s = value_from v.number K v.rest v.holds.2 in
     let most = v.holds.1 in
     let long_is : length (encoded code.key) ≡ n = ap length code.encodes ∙ code.long in
@@ -163,7 +164,7 @@ update_to K (Set k v) rest f h = subst (λ (w : List ℕ). One (Tagged K) (1 ∷
   where
     value : Valued K (long v ++ rest)
     value = let most = f.1 in subst (λ (w : List ℕ). Valued K w) (sym (append_assoc (to_be_bytes w16 (length v)) v rest))
-        (spelt_to 2 0 (length v) (Within 0 1500 (λ n. Skipped n K)) (v ++ rest) (omega arith) (omega arith) (omega arith, most, value_to v K rest h))
+        (spelt_to 2 0 (length v) (Within 0 LONGEST_VALUE (λ n. Skipped n K)) (v ++ rest) (omega arith) (omega arith) (omega arith, most, value_to v K rest h))
 update_to K (Kill k) rest f h = (omega arith, omega arith, record { front = encoded k; back = rest; is = refl; here = code_of k f; there = h })
 update_to K (ZKill k) rest f h = (omega arith, omega arith, record { front = encoded k; back = rest; is = refl; here = code_of k f; there = h })
 
@@ -205,7 +206,7 @@ body_from Hello [] h = absurd h
 body_from Hello (v ∷ []) h = absurd h.2
 body_from Hello (v ∷ n ∷ w) h =
     let a = name_from n Lengthed w h.2.0 h.2.1 h.2.2 in
-    let b = spelt_from 8 0 (Within 0 (2 ^ 40 - 1) (λ _. ReignCount)) a.rest a.holds in
+    let b = spelt_from 8 0 (Within 0 (NUMBERS_END - 1) (λ _. ReignCount)) a.rest a.holds in
     let c = spelt_from 4 0 Reigned b.rest b.holds.2 in
     let r = reigns_from c.number c.rest c.holds in
     let low = h.0 in
@@ -219,16 +220,16 @@ body_from Hello (v ∷ n ∷ w) h =
           (c.is ∙ ap (λ (l : List ℕ). bytes_high_first 4 c.number ++ l) r.3 ∙ ap (λ (m : ℕ). bytes_high_first 4 m ++ flat_map spelled_reign r.0) (sym r.2))))
           ∙ sym (hello_grouped v (length a.value) a.value (bytes_high_first 8 b.number) (bytes_high_first 4 (length r.0)) (flat_map spelled_reign r.0));
     }
-body_from Resume w h = let s = alone_from 1 (2 ^ 40) w h in record { frame = defs.Resume s.0; fields = (s.1, s.2); kind_is = refl; is = s.3 }
-body_from RollbackFirst w h = let s = alone_from 1 (2 ^ 40 - 1) w h in record { frame = defs.RollbackFirst s.0; fields = (s.1, omega (arith, s.2)); kind_is = refl; is = s.3 }
+body_from Resume w h = let s = alone_from 1 NUMBERS_END w h in record { frame = defs.Resume s.0; fields = (s.1, s.2); kind_is = refl; is = s.3 }
+body_from RollbackFirst w h = let s = alone_from 1 (NUMBERS_END - 1) w h in record { frame = defs.RollbackFirst s.0; fields = (s.1, omega (arith, s.2)); kind_is = refl; is = s.3 }
 body_from History w h =
     let r = reign_from Ended w h in
     record { frame = defs.History r.value; fields = r.form; kind_is = refl; is = r.is ∙ ap (λ (l : List ℕ). spelled_reign r.value ++ l) r.holds ∙ append-nil (spelled_reign r.value) }
 body_from Entry w h =
-    let a = spelt_from 8 0 (Within 1 (2 ^ 40 - 1) (λ _. One Updater)) w h in
+    let a = spelt_from 8 0 (Within 1 (NUMBERS_END - 1) (λ _. One Updater)) w h in
     entry_from a.number w a.rest a.holds.0 a.holds.1 a.is a.holds.2
   where
-    entry_from : (number : ℕ) (w rest : List ℕ) → 1 ≤ number → number ≤ 2 ^ 40 - 1 → w ≡ bytes_high_first 8 number ++ rest → One Updater rest → IsBody Entry w
+    entry_from : (number : ℕ) (w rest : List ℕ) → 1 ≤ number → number ≤ NUMBERS_END - 1 → w ≡ bytes_high_first 8 number ++ rest → One Updater rest → IsBody Entry w
     entry_from number w [] low high e h = absurd h
     entry_from number w (u ∷ v) low high e h =
         let b = spelt_from 4 0 (Within 1 (2 ^ 32 - 1) (λ _. UpdateCount)) v h.2 in
@@ -245,7 +246,7 @@ body_from Entry w h =
               (c.is ∙ ap (λ (l : List ℕ). bytes_high_first 2 c.number ++ l) us.3 ∙ ap (λ (m : ℕ). bytes_high_first 2 m ++ flat_map spelled_update us.0) (sym us.2)))
               ∙ sym (entry_grouped u (bytes_high_first 8 number) (bytes_high_first 4 b.number) (bytes_high_first 2 (length us.0)) (flat_map spelled_update us.0));
         }
-body_from Bye w h = let s = alone_from 0 (2 ^ 40 - 1) w h in record { frame = defs.Bye s.0; fields = omega (arith, s.2); kind_is = refl; is = s.3 }
+body_from Bye w h = let s = alone_from 0 (NUMBERS_END - 1) w h in record { frame = defs.Bye s.0; fields = omega (arith, s.2); kind_is = refl; is = s.3 }
 
 abbrev pub kind_of : Frame → Kind
 kind_of (defs.Hello v n h) = Hello
@@ -267,14 +268,14 @@ body_to (defs.Hello v n h) f = (refl, hello)
           omega arith,
           omega arith,
           name_to n Lengthed (to_be_bytes w64 h.length ++ (to_be_bytes w32 (length h.reigns) ++ flat_map spelled_reign h.reigns)) f.1
-              (spelt_to 8 0 h.length (Within 0 (2 ^ 40 - 1) (λ _. ReignCount)) (to_be_bytes w32 (length h.reigns) ++ flat_map spelled_reign h.reigns) (omega arith) (omega arith) (
+              (spelt_to 8 0 h.length (Within 0 (NUMBERS_END - 1) (λ _. ReignCount)) (to_be_bytes w32 (length h.reigns) ++ flat_map spelled_reign h.reigns) (omega arith) (omega arith) (
                 omega arith,
                 omega arith,
                 spelt_to 4 0 (length h.reigns) Reigned (flat_map spelled_reign h.reigns) (omega arith) (omega arith) (reigns_to h.reigns f.4),
               )),
         )
-body_to (defs.Resume n) f = (refl, alone_to 1 (2 ^ 40) n f.0 f.1 (omega (arith, f.1)))
-body_to (defs.RollbackFirst n) f = (refl, alone_to 1 (2 ^ 40 - 1) n f.0 (omega (arith, f.1)) (omega (arith, f.1)))
+body_to (defs.Resume n) f = (refl, alone_to 1 NUMBERS_END n f.0 f.1 (omega (arith, f.1)))
+body_to (defs.RollbackFirst n) f = (refl, alone_to 1 (NUMBERS_END - 1) n f.0 (omega (arith, f.1)) (omega (arith, f.1)))
 body_to (defs.History r) f = (refl, subst (λ (w : List ℕ). Reigned 1 w) (append-nil (spelled_reign r)) (reign_to Ended r [] f refl))
 body_to (defs.Entry n t) f = (refl, entry)
   where
@@ -287,7 +288,7 @@ body_to (defs.Entry n t) f = (refl, entry)
         let some = f.1.some in
         let few = f.1.few in
         subst (λ (w : List ℕ). Body Entry w) (sym (entry_grouped t.origin.updater (to_be_bytes w64 n) (to_be_bytes w32 t.origin.serial) (to_be_bytes w16 (length t.updates)) (flat_map spelled_update t.updates)))
-        (spelt_to 8 0 n (Within 1 (2 ^ 40 - 1) (λ _. One Updater)) (t.origin.updater ∷ (to_be_bytes w32 t.origin.serial ++ (to_be_bytes w16 (length t.updates) ++ flat_map spelled_update t.updates))) (omega arith) (omega (arith, number.1)) (
+        (spelt_to 8 0 n (Within 1 (NUMBERS_END - 1) (λ _. One Updater)) (t.origin.updater ∷ (to_be_bytes w32 t.origin.serial ++ (to_be_bytes w16 (length t.updates) ++ flat_map spelled_update t.updates))) (omega arith) (omega (arith, number.1)) (
           number.0,
           omega (arith, number.1),
           (
@@ -300,14 +301,14 @@ body_to (defs.Entry n t) f = (refl, entry)
             ),
           ),
         ))
-body_to (defs.Bye n) f = (refl, alone_to 0 (2 ^ 40 - 1) n (omega arith) (omega (arith, f)) (omega (arith, f)))
+body_to (defs.Bye n) f = (refl, alone_to 0 (NUMBERS_END - 1) n (omega arith) (omega (arith, f)) (omega (arith, f)))
 
 -- frames
 
 pub framed_from : (w : List ℕ) → Framed w → IsSpelled w
 framed_from [] h = absurd h
 framed_from (b ∷ w) h =
-    let s = spelt_from 4 0 (Within 0 1048576 (λ n. Sized (Body h.kind) n)) w h.body in
+    let s = spelt_from 4 0 (Within 0 LONGEST_BODY (λ n. Sized (Body h.kind) n)) w h.body in
     let f = body_from h.kind s.rest s.holds.2.0 in
     let size : length (frame_body f.frame) ≡ s.number = ap length (sym f.is) ∙ s.holds.2.1 in
     let most = s.holds.1 in
@@ -319,10 +320,10 @@ framed_from (b ∷ w) h =
     }
 
 pub framed_to : (w : List ℕ) → IsSpelled w → Framed w
-framed_to w s = subst (λ (v : List ℕ). Framed v) s.spelled (record { kind = kind_of s.frame; is = b.0; body = spelt_to 4 0 (length (frame_body s.frame)) (Within 0 1048576 (λ n. Sized (Body (kind_of s.frame)) n)) (frame_body s.frame) (omega arith) (omega arith) (omega arith, short, (b.1, refl)) })
+framed_to w s = subst (λ (v : List ℕ). Framed v) s.spelled (record { kind = kind_of s.frame; is = b.0; body = spelt_to 4 0 (length (frame_body s.frame)) (Within 0 LONGEST_BODY (λ n. Sized (Body (kind_of s.frame)) n)) (frame_body s.frame) (omega arith) (omega arith) (omega arith, short, (b.1, refl)) })
   where
     b : (type_of (kind_of s.frame) ≡ frame_type s.frame) × Body (kind_of s.frame) (frame_body s.frame)
     b = body_to s.frame s.is_frame.fields
 
-    short : length (frame_body s.frame) ≤ 1048576
+    short : length (frame_body s.frame) ≤ LONGEST_BODY
     short = s.is_frame.short

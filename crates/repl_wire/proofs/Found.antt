@@ -4,6 +4,7 @@ use Rattle.std.specs.Prelude.{unwrap_or, is_some}
 use Rattle.std.proofs.lemmas.Bool.{false≢true}
 use Rattle.std.specs.Int.{to_be_bytes, w16, w32, w64}
 use Rattle.std.specs.List.{flat_map, AllByRecursion}
+use Rattle.global_defs.specs.declared.limits.TheConstants.{NUMBERS_END}
 use Rattle.global_defs.specs.Entry.{Update, Transaction, Reign}
 use Rattle.global_defs.specs.Fields.{short, spelled_update, IsUpdate, IsSiteName, IsReign}
 use Rattle.global_defs.specs.Prefix as prefix
@@ -161,7 +162,7 @@ pub of_hello : (body : List ℕ) (kind : ℕ) (found : Option Frame) → kind �
 of_hello body kind found is all (Hello w m h) f t e = all w m h f e
 of_hello body kind found is all g f t e = absurd (omega arith)
 
-pub of_bye : (body : List ℕ) (kind : ℕ) (found : Option Frame) → kind ≡ 6 → ((n : ℕ) → n < 2 ^ 40 → body ≡ to_be_bytes w64 n → found ≡ Some (Bye n))
+pub of_bye : (body : List ℕ) (kind : ℕ) (found : Option Frame) → kind ≡ 6 → ((n : ℕ) → n < NUMBERS_END → body ≡ to_be_bytes w64 n → found ≡ Some (Bye n))
     → (f : Frame) → HasFields f → kind ≡ frame_type f → body ≡ frame_body f → found ≡ Some f
 of_bye body kind found is all (Bye n) f t e = all n f e
 of_bye body kind found is all g f t e = absurd (omega arith)

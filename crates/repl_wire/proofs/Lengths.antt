@@ -1,6 +1,7 @@
 -- How many bytes the parts of a layout have.
 use Rattle.std.proofs.Common.{◌≡◌, ℕ, zero, suc, ◌+◌, ◌-◌, ◌*◌, ◌^◌, ◌≤◌, List, [], ◌∷◌, length, Bool, true, false, nat_eq, ap, ◌∙◌, arith, length-append, inl, inr}
 use Rattle.std.specs.Prelude.{◌⊎◌}
+use Rattle.global_defs.specs.declared.limits.TheConstants.{LONGEST_VALUE, NUMBERS_END}
 use Rattle.repl_wire.specs.Layout.{Rest, Numbered, Within, Named, Skipped, Starting, Cycling, Rooted, Reigned, Valued, BehindKey, Keyed, Tagged, Updated, ReignCount, Lengthed}
 use Rattle.gvn_key.proofs.Taking.{code_length}
 
@@ -31,7 +32,7 @@ skipped_length (suc n) K low high b [] h = absurd h
 skipped_length (suc n) K low high b (x ∷ w) h = let c = skipped_length n K low high b w h in (omega (arith, c.0), omega (arith, c.1))
 
 pub starting_length : (K : Rest) (low high : ℕ) → Bounds K low high → Bounds (Starting K) (8 + low) (8 + high)
-starting_length K low high b w h = let d = behind_number 8 0 (Within 1 (2 ^ 40) (λ _. K)) w h in let c = b d.rest d.holds.2 in (omega (arith, d.sizes, c.0), omega (arith, d.sizes, c.1))
+starting_length K low high b w h = let d = behind_number 8 0 (Within 1 NUMBERS_END (λ _. K)) w h in let c = b d.rest d.holds.2 in (omega (arith, d.sizes, c.0), omega (arith, d.sizes, c.1))
 
 pub cycling_length : (K : Rest) (low high : ℕ) → Bounds K low high → Bounds (Cycling K) (12 + low) (12 + high)
 cycling_length K low high b w h =
@@ -48,7 +49,7 @@ reigned_length (suc count) (b ∷ w) h = let c = rooted_length (Reigned count) (
 
 pub valued_length : (K : Rest) (low high : ℕ) → Bounds K low high → Bounds (Valued K) (2 + low) (1502 + high)
 valued_length K low high b w h =
-    let d = behind_number 2 0 (Within 0 1500 (λ n. Skipped n K)) w h in
+    let d = behind_number 2 0 (Within 0 LONGEST_VALUE (λ n. Skipped n K)) w h in
     let c = skipped_length d.value K low high b d.rest d.holds.2 in (omega (arith, d.sizes, c.0, d.holds.1), omega (arith, d.sizes, c.1, d.holds.1))
 
 -- how many bytes stand behind a key at least, and at most
@@ -98,7 +99,7 @@ reign_count_length w h = let d = behind_number 4 0 Reigned w h in by_count d.val
     by_count (suc n) v r e = let c = reigned_length (suc n) v r in inr (omega (arith, c.0))
 
 pub lengthed_length : (w : List ℕ) → Lengthed w → (length w ≡ 12) ⊎ (26 ≤ length w)
-lengthed_length w h = let d = behind_number 8 0 (Within 0 (2 ^ 40 - 1) (λ _. ReignCount)) w h in by_rest d.rest d.sizes (reign_count_length d.rest d.holds.2)
+lengthed_length w h = let d = behind_number 8 0 (Within 0 (NUMBERS_END - 1) (λ _. ReignCount)) w h in by_rest d.rest d.sizes (reign_count_length d.rest d.holds.2)
   where
     by_rest : (v : List ℕ) → length w ≡ 8 + length v → (length v ≡ 4) ⊎ (18 ≤ length v) → (length w ≡ 12) ⊎ (26 ≤ length w)
     by_rest v e s = elim s as (λ _. (length w ≡ 12) ⊎ (26 ≤ length w)) [ inl a ↦ inl (omega arith) | inr b ↦ inr (omega arith) ]

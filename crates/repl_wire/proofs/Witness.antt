@@ -3,6 +3,7 @@ use Rattle.std.proofs.Common.{◌≡◌, ℕ, zero, suc, ◌+◌, ◌-◌, ◌*�
 use Rattle.std.specs.Prelude.{◌⊎◌}
 use Rattle.std.proofs.lemmas.Bool.{cases_lt}
 use Rattle.std.proofs.lemmas.Nat.{div-add-mod', mod_below, le-div, div_below}
+use Rattle.global_defs.specs.declared.limits.TheConstants.{LONGEST_VALUE, NUMBERS_END}
 use Rattle.repl_wire.specs.declared.field.Kind.{Kind}
 use Rattle.repl_wire.specs.declared.field.Kind.TheVariants.{Hello, Resume, RollbackFirst, History, Entry, Bye}
 use Rattle.repl_wire.specs.declared.field.ByteField.{ByteField}
@@ -85,7 +86,7 @@ of_length K a b e s = subst (λ (n : ℕ). Some K n) e s
 -- reigns
 
 some_starting : (left : ℕ) (K : Rest) → Some K left → Some (Starting K) (8 + left)
-some_starting left K s = number_some 8 1 (2 ^ 40) 1 left (λ _. K) (omega arith) (omega arith) (omega arith) s
+some_starting left K s = number_some 8 1 NUMBERS_END 1 left (λ _. K) (omega arith) (omega arith) (omega arith) s
 
 some_cycling : (left : ℕ) (K : Rest) → Some K left → Some (Cycling K) (12 + left)
 some_cycling left K s = of_length (Cycling K) (4 + (8 + left)) (12 + left) (omega arith) (number_some 4 1 (2 ^ 32 - 1) 1 (8 + left) (λ _. Starting K) (omega arith) (omega arith) (omega arith) (some_starting left K s))
@@ -131,7 +132,7 @@ some_reign_count left h =
 
 pub some_lengthed : (left : ℕ) → HoldsSome 12 left → Some Lengthed left
 some_lengthed left h =
-    of_length Lengthed (8 + (left - 8)) left least (number_some 8 0 (2 ^ 40 - 1) 0 (left - 8) (λ _. ReignCount) (omega arith) (omega arith) (omega arith) (some_reign_count (left - 8) (less, (let top = h.1 in omega arith))))
+    of_length Lengthed (8 + (left - 8)) left least (number_some 8 0 (NUMBERS_END - 1) 0 (left - 8) (λ _. ReignCount) (omega arith) (omega arith) (omega arith) (some_reign_count (left - 8) (less, (let top = h.1 in omega arith))))
   where
     least : 8 + (left - 8) ≡ left
     least = elim h.0 as (λ _. 8 + (left - 8) ≡ left) [ inl z ↦ omega arith | inr z ↦ omega arith ]
@@ -153,7 +154,7 @@ some_site left least most = elim (cases_lt left 28) as (λ _. Some (One (λ b. S
 
 -- updates
 
-some_valued : (n left : ℕ) (K : Rest) → n ≤ 1500 → Some K left → Some (Valued K) (2 + n + left)
+some_valued : (n left : ℕ) (K : Rest) → n ≤ LONGEST_VALUE → Some K left → Some (Valued K) (2 + n + left)
 some_valued n left K most s = of_length (Valued K) (2 + (n + left)) (2 + n + left) (omega arith) (number_some 2 0 1500 n (n + left) (λ m. Skipped m K) (omega arith) most (omega arith) (some_skipped n left K s))
 
 module _ (count : ℕ) (some : (m : ℕ) → HoldsUpdates 0 0 count m → Some (Updated count) m) where
@@ -226,7 +227,7 @@ unsized K left (b ∷ w) h = h.0
 some_unsized : (K : ℕ → Rest) (left len : ℕ) → Some (One (λ b. Sized (K b) left)) len → Some (One K) len
 some_unsized K left len s = record { bytes = s.bytes; holds = unsized K left s.bytes s.holds; sizes = s.sizes }
 
-some_alone : (low high : ℕ) → low ≤ high → high ≤ 2 ^ 40 → Some (Alone low high) 8
+some_alone : (low high : ℕ) → low ≤ high → high ≤ NUMBERS_END → Some (Alone low high) 8
 some_alone low high a b = number_some 8 low high low 0 (λ _. Ended) (omega arith) a (omega arith) some_ended
 
 some_version : (left : ℕ) → 14 ≤ left → left ≤ 1048575 → Some (One (λ b. Sized (Versioned b) left)) (suc left)
@@ -237,16 +238,16 @@ some_version left least most =
 
 some_body : (kind : Kind) (len : ℕ) → least_body kind ≤ len → len ≤ most_body kind → Some (Body kind) len
 some_body Hello len least most = of_length (Body Hello) (suc (len - 1)) len (omega arith) (some_unsized Versioned (len - 1) (suc (len - 1)) (some_version (len - 1) (omega arith) (omega arith)))
-some_body Resume len least most = of_length (Body Resume) 8 len (omega arith) (some_alone 1 (2 ^ 40) (omega arith) (omega arith))
-some_body RollbackFirst len least most = of_length (Body RollbackFirst) 8 len (omega arith) (some_alone 1 (2 ^ 40 - 1) (omega arith) (omega arith))
+some_body Resume len least most = of_length (Body Resume) 8 len (omega arith) (some_alone 1 NUMBERS_END (omega arith) (omega arith))
+some_body RollbackFirst len least most = of_length (Body RollbackFirst) 8 len (omega arith) (some_alone 1 (NUMBERS_END - 1) (omega arith) (omega arith))
 some_body History len least most = some_reigns 1 len (omega arith, omega arith)
 some_body Entry len least most =
     let s = some_unsized Updater (len - 9) (suc (len - 9)) (some_updater (len - 9) (omega arith) (omega arith)) in
-    of_length (Body Entry) (8 + suc (len - 9)) len (omega arith) (number_some 8 1 (2 ^ 40 - 1) 1 (suc (len - 9)) (λ _. One Updater) (omega arith) (omega arith) (omega arith) s)
-some_body Bye len least most = of_length (Body Bye) 8 len (omega arith) (some_alone 0 (2 ^ 40 - 1) (omega arith) (omega arith))
+    of_length (Body Entry) (8 + suc (len - 9)) len (omega arith) (number_some 8 1 (NUMBERS_END - 1) 1 (suc (len - 9)) (λ _. One Updater) (omega arith) (omega arith) (omega arith) s)
+some_body Bye len least most = of_length (Body Bye) 8 len (omega arith) (some_alone 0 (NUMBERS_END - 1) (omega arith) (omega arith))
 
 -- bytes behind a number
-some_behind : (field : NumberField) (low high left items n : ℕ) → low ≤ n → n ≤ high → high ≤ 2 ^ 40 → NumberFits field low high left items → (len : ℕ) × Some (BehindNumber field left items n) len
+some_behind : (field : NumberField) (low high left items n : ℕ) → low ≤ n → n ≤ high → high ≤ NUMBERS_END → NumberFits field low high left items → (len : ℕ) × Some (BehindNumber field left items n) len
 some_behind (number.BodyLength kind) low high left items n a b small f = (n, sized (Body kind) n (some_body kind n (omega (arith, f.0)) (omega (arith, f.1))))
 some_behind number.Length low high left items n a b small f = (left, sized ReignCount left (some_reign_count left f))
 some_behind number.ReignCount low high left items n a b small f = (left, sized (Reigned n) left (some_reigns n left (omega (arith, f.0), omega (arith, f.1))))
@@ -267,7 +268,7 @@ some_behind number.ValueLength low high left items n a b small f = (
 -- bytes behind a byte
 some_byte : (field : ByteField) (left items : ℕ) → ByteFits field left items → (len : ℕ) × Some (One (BehindByte field left items)) len
 some_byte byte.Type left items f =
-    let s = number_some 4 0 1048576 8 8 (λ n. Sized (Body Resume) n) (omega arith) (omega arith) (omega arith) (sized (Body Resume) 8 (some_alone 1 (2 ^ 40) (omega arith) (omega arith))) in
+    let s = number_some 4 0 1048576 8 8 (λ n. Sized (Body Resume) n) (omega arith) (omega arith) (omega arith) (sized (Body Resume) 8 (some_alone 1 NUMBERS_END (omega arith) (omega arith))) in
     (13, some_one 2 12 Typed (record { bytes = s.bytes; holds = record { kind = Resume; is = refl; body = s.holds }; sizes = s.sizes }))
 some_byte byte.Version left items f = (suc left, some_version left f.0 f.1)
 some_byte byte.SiteLength left items f = (suc left, some_site left f.0 f.1)

@@ -1,5 +1,6 @@
 -- Numbers of which the first bytes have come.
 use Rattle.std.specs.Prelude.{ℕ, zero, suc, ◌+◌, ◌-◌, ◌*◌, ◌^◌, ◌<◌, ◌≤◌}
+use Rattle.global_defs.specs.declared.limits.TheConstants.{NUMBERS_END}
 use Rattle.repl_wire.specs.declared.front.Front.{Front}
 
 -- how many numbers are spelled in so many bytes
@@ -12,7 +13,7 @@ pub record IsMet (f : Front) : Type 0 where
   pub not_past : f.value * unit f.missing ≤ f.high
   pub reaches : f.low < (f.value + 1) * unit f.missing
   pub bounds : f.low ≤ f.high
-  pub small : f.high ≤ 2 ^ 40
+  pub small : f.high ≤ NUMBERS_END
 
 -- Such a number of which a byte is missing.
 pub record IsOpen (f : Front) : Type 0 where

@@ -1,5 +1,6 @@
 -- The types of frames.
 use Rattle.std.specs.Prelude.{ℕ}
+use Rattle.global_defs.specs.declared.limits.TheConstants.{LONGEST_BODY}
 use Rattle.repl_wire.specs.declared.field.Kind.{Kind}
 use Rattle.repl_wire.specs.declared.field.Kind.TheVariants.{Hello, Resume, RollbackFirst, History, Entry, Bye}
 
@@ -21,7 +22,7 @@ least_body Entry = 19
 least_body Bye = 8
 
 abbrev pub most_body : Kind → ℕ
-most_body Hello = 1048576
+most_body Hello = LONGEST_BODY
 most_body Resume = 8
 most_body RollbackFirst = 8
 most_body History = 28

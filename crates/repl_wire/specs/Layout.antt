@@ -1,6 +1,7 @@
 -- The layout of frames as what may come next, byte after byte.
 use Rattle.std.specs.Prelude.{◌≡◌, ℕ, zero, suc, ◌+◌, ◌-◌, ◌*◌, ◌^◌, ◌<◌, ◌≤◌, Bool, true, false, IsTrue, List, [], ◌∷◌, ◌++◌, length, nat_eq}
 use Rattle.std.specs.Char.{is_ascii_alphabetic, is_ascii_alphanumeric}
+use Rattle.global_defs.specs.declared.limits.TheConstants.{LONGEST_BODY, LONGEST_VALUE, NUMBERS_END}
 use Rattle.gvn_key.specs.Codes.{IsCode}
 use Rattle.repl_wire.specs.declared.field.Kind.{Kind}
 use Rattle.repl_wire.specs.declared.field.Kind.TheVariants.{Hello, Resume, RollbackFirst, History, Entry, Bye}
@@ -59,7 +60,7 @@ pub record Then (A K : Rest) (w : List ℕ) : Type 0 where
 
 -- a start, then K
 abbrev pub Starting : Rest → Rest
-Starting K = Numbered 8 0 (Within 1 (2 ^ 40) (λ _. K))
+Starting K = Numbered 8 0 (Within 1 NUMBERS_END (λ _. K))
 
 abbrev pub Cycling : Rest → Rest
 Cycling K = Numbered 4 0 (Within 1 (2 ^ 32 - 1) (λ _. Starting K))
@@ -75,7 +76,7 @@ Reigned (suc count) = One (Rooted (Reigned count))
 
 -- a value behind its length
 abbrev pub Valued : Rest → Rest
-Valued K = Numbered 2 0 (Within 0 1500 (λ n. Skipped n K))
+Valued K = Numbered 2 0 (Within 0 LONGEST_VALUE (λ n. Skipped n K))
 
 -- what stands behind the key of a SET, or of another update
 abbrev pub BehindKey : Bool → Rest → Rest
@@ -108,7 +109,7 @@ abbrev pub ReignCount : Rest
 ReignCount = Numbered 4 0 Reigned
 
 abbrev pub Lengthed : Rest
-Lengthed = Numbered 8 0 (Within 0 (2 ^ 40 - 1) (λ _. ReignCount))
+Lengthed = Numbered 8 0 (Within 0 (NUMBERS_END - 1) (λ _. ReignCount))
 
 -- a site's name of that length, and the rest of a HELLO
 abbrev pub Sited : ℕ → Rest
@@ -123,15 +124,15 @@ Alone low high = Numbered 8 0 (Within low high (λ _. Ended))
 -- a body of that type
 abbrev pub Body : Kind → Rest
 Body Hello = One Versioned
-Body Resume = Alone 1 (2 ^ 40)
-Body RollbackFirst = Alone 1 (2 ^ 40 - 1)
+Body Resume = Alone 1 NUMBERS_END
+Body RollbackFirst = Alone 1 (NUMBERS_END - 1)
 Body History = Reigned 1
-Body Entry = Numbered 8 0 (Within 1 (2 ^ 40 - 1) (λ _. One Updater))
-Body Bye = Alone 0 (2 ^ 40 - 1)
+Body Entry = Numbered 8 0 (Within 1 (NUMBERS_END - 1) (λ _. One Updater))
+Body Bye = Alone 0 (NUMBERS_END - 1)
 
 -- a body's length and the body
 abbrev pub Bodied : Kind → Rest
-Bodied kind = Numbered 4 0 (Within 0 1048576 (λ n. Sized (Body kind) n))
+Bodied kind = Numbered 4 0 (Within 0 LONGEST_BODY (λ n. Sized (Body kind) n))
 
 -- the rest of a frame behind its type
 pub record Typed (b : ℕ) (w : List ℕ) : Type 0 where

@@ -1,5 +1,6 @@
 -- What completes a frame of which a front has come.
 use Rattle.std.specs.Prelude.{◌≡◌, ℕ, ◌+◌, ◌*◌, ◌-◌, ◌≤◌, Bool, true, false, List, length, Option, Some, None, ◌⊎◌}
+use Rattle.global_defs.specs.declared.limits.TheConstants.{LONGEST_BODY, LONGEST_VALUE, MOST_UPDATES}
 use Rattle.gvn_key.specs.Rests.{IsAt, Completes}
 use Rattle.gvn_key.specs.declared.prefix.KeyPrefix.{KeyPrefix}
 use Rattle.repl_wire.specs.declared.field.ByteField.{ByteField}
@@ -66,7 +67,7 @@ HoldsUpdates low high count bytes = (low + 4 * count ≤ bytes) × (bytes ≤ hi
 
 -- so many bytes are fields of `fields` bytes and some reigns
 abbrev pub HoldsSome : (fields bytes : ℕ) → Type 0
-HoldsSome fields bytes = ((bytes ≡ fields) ⊎ (fields + 14 ≤ bytes)) × (bytes ≤ 1048576)
+HoldsSome fields bytes = ((bytes ≡ fields) ⊎ (fields + 14 ≤ bytes)) × (bytes ≤ LONGEST_BODY)
 
 -- Some bytes of the length can stand behind a field of one byte.
 abbrev pub ByteFits : ByteField → (left items : ℕ) → Type 0
@@ -83,14 +84,14 @@ ByteFits (byte.KeyLength false) left items = HoldsUpdates 2 255 items left
 abbrev pub NumberFits : NumberField → (low high left items : ℕ) → Type 0
 NumberFits (number.BodyLength kind) low high left items = (least_body kind ≤ low) × (high ≤ most_body kind)
 NumberFits number.Length low high left items = HoldsSome 4 left
-NumberFits number.ReignCount low high left items = (14 * high ≤ left) × (left ≤ 28 * low) × (left ≤ 1048576)
+NumberFits number.ReignCount low high left items = (14 * high ≤ left) × (left ≤ 28 * low) × (left ≤ LONGEST_BODY)
 NumberFits number.Cycle low high left items = HoldsReigns 8 8 items left
 NumberFits number.Start low high left items = HoldsReigns 0 0 items left
 NumberFits number.Alone low high left items = left ≡ 0
 NumberFits number.EntryNumber low high left items = (11 ≤ left) × (left ≤ 450311)
 NumberFits number.Serial low high left items = (6 ≤ left) × (left ≤ 450306)
-NumberFits number.UpdateCount low high left items = (4 * high ≤ left) × (left ≤ 1759 * low) × (1 ≤ low) × (high ≤ 256)
-NumberFits number.ValueLength low high left items = (high + 4 * items ≤ left) × (left ≤ low + 1759 * items) × (high ≤ 1500)
+NumberFits number.UpdateCount low high left items = (4 * high ≤ left) × (left ≤ 1759 * low) × (1 ≤ low) × (high ≤ MOST_UPDATES)
+NumberFits number.ValueLength low high left items = (high + 4 * items ≤ left) × (left ≤ low + 1759 * items) × (high ≤ LONGEST_VALUE)
 
 abbrev pub NameFits : Bool → (left items : ℕ) → Type 0
 NameFits true left items = HoldsSome 12 left

@@ -1,5 +1,6 @@
 //! What comes behind a field.
 ghost use Rattle.std.specs.Prelude.{◌≡◌, ◌<◌, ◌≤◌, ◌+◌, ◌*◌, ◌-◌, ◌^◌, ◌↔◌, ℕ, IsTrue};
+ghost use Rattle.global_defs.specs.declared.limits.TheConstants.{NUMBERS_END};
 ghost use Rattle.repl_wire.specs.Kinds.{least_body, most_body};
 ghost use Rattle.repl_wire.specs.Layout.{Sized, Body, Bodied, Alone, Typed, Reigned, Updated, Updater, Sited, Rooted, Tagged, Keyed, Versioned, Skipped};
 ghost use Rattle.repl_wire.specs.Scans.{Awaits, AwaitsIfAny, BehindByte, BehindNumber, BehindName, ByteFits, NumberFits, NameFits, KeyFits, SiteFits, RootFits, TagFits, KeyLengthFits};
@@ -10,15 +11,16 @@ use super::items::{
     cycle_begun, ended, holds_reigns, holds_some, holds_updates, reign_count_begun, reigns_begun,
     update_count_begun, updates_begun,
 };
+use global_defs::limits::LONGEST_BODY;
 use gvn_key::KeyPrefix;
 
 /// The last number of 40 bits.
-const LAST: u64 = 0xff_ffff_ffff;
+const LAST: u64 = global_defs::limits::NUMBERS_END - 1;
 
 /// Before a body that is a number.
 fn alone(low: u64, high: u64) -> Scan
     requires bounds { low ≤ high }
-    requires small { high ≤ 2 ^ 40 }
+    requires small { high ≤ NUMBERS_END }
     ensures { Awaits result (Sized (Alone low high) 8) }
 {
     Scan {
@@ -58,7 +60,7 @@ fn body_lengths(kind: Kind) -> (u32, u32)
     ensures most { result.1 ≡ most_body kind }
 {
     match kind {
-        Kind::Hello => (15, 1_048_576),
+        Kind::Hello => (15, LONGEST_BODY),
         Kind::Resume | Kind::RollbackFirst | Kind::Bye => (8, 8),
         Kind::History => (14, 28),
         Kind::Entry => (19, 450_319),
@@ -270,7 +272,7 @@ fn value_length_read(length: u16, left: u32, items: u32) -> Scan
 /// Behind a number.
 pub fn number_read(field: NumberField, number: u64, left: u32, items: u32) -> Scan
     requires fits { NumberFits field number number left items }
-    requires small { number ≤ 2 ^ 40 }
+    requires small { number ≤ NUMBERS_END }
     ensures { Awaits result (BehindNumber field left items number) }
 {
     match field {

@@ -5,6 +5,7 @@ ghost use Rattle.repl_wire.specs.Scans.{Awaits, HoldsSome, HoldsReigns, HoldsUpd
 
 use super::field::{ByteField, NumberField, Part, Scan};
 use super::front::Front;
+use global_defs::limits::LONGEST_BODY;
 
 /// Whether so many bytes are this many reigns, behind fields of `low` to `high` bytes.
 pub fn holds_reigns(low: u32, high: u32, count: u32, bytes: u32) -> bool
@@ -20,7 +21,7 @@ pub fn holds_some(fields: u32, bytes: u32) -> bool
     requires { fields ≤ 12 }
     ensures { IsTrue result ↔ HoldsSome fields bytes }
 {
-    (bytes == fields || fields + 14 <= bytes) && bytes <= 1_048_576
+    (bytes == fields || fields + 14 <= bytes) && bytes <= LONGEST_BODY
 }
 
 /// Whether so many bytes are this many updates, behind fields of `low` to `high` bytes.

@@ -1,6 +1,7 @@
 //! How many bytes a frame has, without writing it.
 ghost use Rattle.std.specs.Prelude.{◌≡◌, ◌≤◌, length, map};
 ghost use Rattle.std.specs.List.{AllByRecursion};
+ghost use Rattle.global_defs.specs.declared.limits.TheConstants.{LONGEST_BODY};
 ghost use Rattle.global_defs.specs.Fields.{IsReign, IsUpdate, spelled_update};
 ghost use Rattle.gvn_key.specs.Terms.{update_value};
 ghost use Rattle.gvn_model.specs.Reigns.{reign_value};
@@ -23,7 +24,7 @@ fn reign_length(reign: &Reign) -> u64
 /// How many bytes reigns have.
 fn reigns_length(reigns: &[Reign]) -> u64
     requires form { AllByRecursion IsReign (map reign_value reigns.now) }
-    requires most { total spelled_reign (map reign_value reigns.now) ≤ 1048576 }
+    requires most { total spelled_reign (map reign_value reigns.now) ≤ LONGEST_BODY }
     ensures { result ≡ total spelled_reign (map reign_value reigns.now) }
 {
     let mut sum = 0;
@@ -47,7 +48,7 @@ fn update_length(update: &Update) -> u64
 /// How many bytes updates have.
 fn updates_length(updates: &[Update]) -> u64
     requires form { AllByRecursion IsUpdate (map update_value updates.now) }
-    requires most { total spelled_update (map update_value updates.now) ≤ 1048576 }
+    requires most { total spelled_update (map update_value updates.now) ≤ LONGEST_BODY }
     ensures { result ≡ total spelled_update (map update_value updates.now) }
 {
     let mut sum = 0;

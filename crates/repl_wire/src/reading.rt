@@ -2,6 +2,7 @@
 ghost use Rattle.std.specs.Prelude.{◌≡◌, ◌++◌, ◌≤◌, ◌<◌, ◌^◌, ◌∷◌, ℕ, List, length, Some, IfOk, IsTrue, map};
 ghost use Rattle.std.specs.Option.{option_map};
 ghost use Rattle.std.specs.List.{flat_map, AllByRecursion};
+ghost use Rattle.global_defs.specs.declared.limits.TheConstants.{NUMBERS_END};
 ghost use Rattle.global_defs.specs.Fields.{IsReign, IsUpdate, IsTransaction, spelled_update};
 ghost use Rattle.std.specs.Int.{to_be_bytes, w64};
 ghost use Rattle.global_defs.specs.Entry as entries;
@@ -153,7 +154,7 @@ fn read_alone(bytes: &[u8]) -> Option<u64>
 
 /// A BYE by its body.
 fn read_bye(bytes: &[u8]) -> Option<Frame>
-    ensures { (n : ℕ) → n < 2 ^ 40 → bytes.now ≡ to_be_bytes w64 n → option_map frame_value result ≡ Some (defs.Bye n) }
+    ensures { (n : ℕ) → n < NUMBERS_END → bytes.now ≡ to_be_bytes w64 n → option_map frame_value result ≡ Some (defs.Bye n) }
 {
     match read_alone(bytes) {
         None => None,

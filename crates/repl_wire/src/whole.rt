@@ -1,11 +1,13 @@
 //! An ENTRY that is whole in the bytes at hand, read at once: its head tells its length, so no byte is looked at before.
 ghost use Rattle.std.specs.Prelude.{◌≡◌, ◌<◌, ◌≤◌, ◌^◌, [], ◌∷◌, ◌++◌, length, IfOk, IfSome, IsTrue};
+ghost use Rattle.global_defs.specs.declared.limits.TheConstants.{MOST_UPDATERS, MOST_UPDATES, NUMBERS_END};
 ghost use Rattle.global_defs.specs.Fields.{IsUpdate, spelled_update};
 ghost use Rattle.gvn_key.specs.Terms.{update_value};
 ghost use Rattle.repl_wire.specs.Values.{frame_value};
 ghost use Rattle.repl_wire.specs.Wholes.{StandBefore, IsEntryOf, StandsFirst};
 
 use super::frame::Frame;
+use global_defs::limits::LONGEST_BODY;
 use gvn_key::NoMemory;
 use gvn_key::terms::Update;
 use gvn_model::{Origin, Transaction, Updates};
@@ -13,10 +15,7 @@ use repl_fields::{read_key, read_u8, read_u16, read_u32, read_u64, read_update, 
 use std::alloc::Global;
 
 /// The last number of 40 bits.
-const LAST: u64 = 0xff_ffff_ffff;
-
-/// How many bytes a frame's body may have.
-const LONGEST_BODY: u32 = 1_048_576;
+const LAST: u64 = global_defs::limits::NUMBERS_END - 1;
 
 /// How many bytes stand before a frame's body.
 const HEAD: usize = 5;
@@ -78,10 +77,10 @@ fn updates_first<'a>(
 
 /// Whether an entry may have this number, this origin and so many updates.
 fn may_head(number: u64, updater: u8, serial: u32, count: u16) -> bool
-    ensures number { IsTrue result → (1 ≤ number) × (number < 2 ^ 40) }
-    ensures updater { IsTrue result → (1 ≤ updater) × (updater ≤ 64) }
+    ensures number { IsTrue result → (1 ≤ number) × (number < NUMBERS_END) }
+    ensures updater { IsTrue result → (1 ≤ updater) × (updater ≤ MOST_UPDATERS) }
     ensures serial { IsTrue result → (1 ≤ serial) × (serial < 2 ^ 32) }
-    ensures count { IsTrue result → (1 ≤ count) × (count ≤ 256) }
+    ensures count { IsTrue result → (1 ≤ count) × (count ≤ MOST_UPDATES) }
 {
     1 <= number
         && number <= LAST

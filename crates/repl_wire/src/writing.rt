@@ -2,6 +2,7 @@
 ghost use Rattle.std.specs.Prelude.{◌≡◌, ◌++◌, ◌≤◌, ◌<◌, ◌^◌, ◌∷◌, ℕ, length, OnOk, OnErr, map, take, drop, List};
 ghost use Rattle.std.specs.List.{flat_map, AllByRecursion};
 ghost use Rattle.std.specs.Int.{to_be_bytes, w16, w32, w64};
+ghost use Rattle.global_defs.specs.declared.limits.TheConstants.{LONGEST_BODY};
 ghost use Rattle.global_defs.specs.Fields.{IsReign, IsUpdate, IsTransaction, spelled_update};
 ghost use Rattle.global_defs.specs.Entry as entries;
 ghost use Rattle.global_defs.specs.Prefix.{IsPrefix};
@@ -139,7 +140,7 @@ pub fn entry_head(length: u32) -> [u8; 5]
 /// Adds an ENTRY at the end by the bytes of its entry, as a pool or a file gives them. After [`NoMemory`] a part of it may have
 /// been added.
 pub fn write_entry_frame(entry: &[u8], out: &mut Bytes) -> Result<(), NoMemory>
-    requires { length entry.now ≤ 1048576 }
+    requires { length entry.now ≤ LONGEST_BODY }
     ensures ok { OnOk result (out.new ≡ out.old ++ (5 ∷ to_be_bytes w32 (length entry.now) ++ entry.now)) }
     ensures frame { (n : ℕ) (t : entries.Transaction) → entry.now ≡ entry_bytes n t → OnOk result (out.new ≡ out.old ++ spelled_frame (defs.Entry n t)) }
     ensures err { OnErr result (IsPrefix out.old out.new) }

@@ -6,7 +6,8 @@ use Rattle.std.specs.List.{AllByRecursion}
 use Rattle.std.specs.Option.{option_or}
 use Rattle.global_defs.specs.Entry.{Stamp, Reign}
 use Rattle.global_defs.specs.Prefix.{stamp_at}
-use Rattle.lineage_defs.specs.Histories.{begun_by, StartsRise}
+use Rattle.global_defs.specs.Rising.{StartsRise, begun_by}
+use Rattle.global_defs.proofs.Basics.{or_none}
 
 not_begun : (n : ℕ) (r : Reign) → n < r.start → nat_le r.start n ≡ false
 not_begun n r low = grind (arith, nat_tests)
@@ -82,10 +83,6 @@ stamp-push_late n (q ∷ rs) r low = ap (λ (o : Option Stamp). option_or o (if 
 pub stamp-push : (n : ℕ) (rs : List Reign) (r : Reign) → r.start ≤ n → stamp_at n (rs ++ r ∷ []) ≡ Some r.stamp
 stamp-push n [] r le = ap (λ (b : Bool). if b then Some r.stamp else None) (has_begun n r le)
 stamp-push n (q ∷ rs) r le = ap (λ (o : Option Stamp). option_or o (if nat_le q.start n then Some q.stamp else None)) (stamp-push n rs r le)
-
-pub or_none : (o : Option Stamp) → option_or o None ≡ o
-or_none None = refl
-or_none (Some s) = refl
 
 -- the first reign gives a stamp where no other one does
 pub stamp-first : (n : ℕ) (r : Reign) (rs : List Reign) → r.start ≤ n → stamp_at n (r ∷ rs) ≡ option_or (stamp_at n rs) (Some r.stamp)

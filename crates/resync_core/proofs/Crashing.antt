@@ -1,10 +1,12 @@
 -- What a crash may leave of a site is a front of its sequence.
 use Rattle.std.proofs.Common.{◌≡◌, ℕ, ◌≤◌, length, slice_get, Some, sym, subst, arith}
+use Rattle.global_defs.specs.declared.limits.TheConstants.{MOST_REIGNS}
 use Rattle.global_defs.specs.Entry.{Sequence}
 use Rattle.global_defs.specs.Prefix.{IsPrefix}
-use Rattle.lineage_defs.specs.Histories.{MOST_REIGNS, begun_by, IsHistory}
+use Rattle.global_defs.specs.Rising.{SerialsRise, begun_by}
+use Rattle.lineage_defs.specs.Histories.{IsHistory}
 use Rattle.lineage_defs.specs.Sites.{Following, Site, World}
-use Rattle.lineage_defs.specs.Lineage.{Agree, SerialsRise, HasCycles, IsFit}
+use Rattle.lineage_defs.specs.Lineage.{Agree, HasCycles, IsFit}
 use Rattle.lineage_defs.specs.Outcomes.{IsOutcome}
 use Rattle.resync_core.proofs.BegunReigns.{fewer-begun}
 use Rattle.resync_core.proofs.Fronts as lists

@@ -2,14 +2,16 @@
 use Rattle.std.proofs.Common.{◌≡◌, inl, inr, ℕ, ◌+◌, ◌-◌, ◌<◌, ◌≤◌, List, [], ◌∷◌, ◌++◌, length, take, sym, ◌∙◌, ap, subst, arith, take-take, get_or-set_same}
 use Rattle.std.proofs.Math.ListN.{length-set}
 use Rattle.std.proofs.lemmas.Option.{slice_get_within}
+use Rattle.global_defs.specs.declared.limits.TheConstants.{MOST_UPDATERS}
 use Rattle.global_defs.specs.Entry.{Update, Stamp, Entry, Sequence}
 use Rattle.global_defs.specs.Serial.{entry_of, serial_at}
 use Rattle.global_defs.specs.Prefix.{IsPrefix}
 use Rattle.lineage_defs.specs.Sites.{Primary, Following, Site, World}
 use Rattle.lineage_defs.specs.Events.{picked_once}
-use Rattle.lineage_defs.specs.Lineage.{SerialsRise, ArePast, IsReigning, HasPrimary}
+use Rattle.lineage_defs.specs.Lineage.{ArePast, IsReigning, HasPrimary}
 use Rattle.resync_core.proofs.Fronts as lists
 use Rattle.global_defs.proofs.Lists.{at_least, get-push}
+use Rattle.global_defs.specs.Rising.{SerialsRise}
 
 pub rise-front : (xs ys : Sequence) → IsPrefix xs ys → SerialsRise ys → SerialsRise xs
 rise-front xs ys p rise i j d e low first second = rise i j d e low (lists.prefix-get xs ys i d p first) (lists.prefix-get xs ys j e p second)
@@ -35,12 +37,12 @@ grown h n xs ys within le =
 pub left : (h k n : ℕ) (xs : Sequence) → h ≤ k → k ≤ n → IsPrefix (take h xs) (take k (take n xs))
 left h k n xs le most = subst (λ (l : Sequence). IsPrefix (take h xs) l) (sym (take-take k n xs most)) (lists.fronts h k xs le)
 
--- no updater's next serial falls
+-- what stands before each updater's next serial still does once an updater took its own
 pub next-raised : (stamp : Stamp) (serials : List ℕ) (u : ℕ) (seq : Sequence) → ArePast stamp serials seq → ArePast stamp (picked_once serials u) seq
 next-raised stamp serials u seq next i e is its =
     let low = next i e is its in let more = at_least serials (e.transaction.origin.updater - 1) (u - 1) in omega arith
 
-pub next-more : (stamp : Stamp) (serials : List ℕ) (u : ℕ) (updates : List Update) (seq : Sequence) → 1 ≤ u → u ≤ 64 → length serials ≡ 64 → ArePast stamp serials seq
+pub next-more : (stamp : Stamp) (serials : List ℕ) (u : ℕ) (updates : List Update) (seq : Sequence) → 1 ≤ u → u ≤ MOST_UPDATERS → length serials ≡ 64 → ArePast stamp serials seq
     → ArePast stamp (picked_once serials u) (seq ++ entry_of stamp u (serial_at serials u) updates ∷ [])
 next-more stamp serials u updates seq least most size next i e is its = elim (get-push seq made i e is) [
   | inl old ↦ next-raised stamp serials u seq next i e old its

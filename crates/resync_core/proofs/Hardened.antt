@@ -4,7 +4,7 @@ use Rattle.std.specs.List.{AllByRecursion}
 use Rattle.global_defs.specs.Entry.{Sequence}
 use Rattle.global_defs.specs.Serial.{entry_of, serial_at}
 use Rattle.global_defs.specs.Prefix.{IsPrefix}
-use Rattle.lineage_defs.specs.Lists.{At}
+use Rattle.global_defs.specs.Beside.{At}
 use Rattle.lineage_defs.specs.Sites.{Following, Site, World, hardened_part}
 use Rattle.lineage_defs.specs.Events.{Event, Decide, Harden, Send, Receive, Apply, Cut, Crash, Begin, Follow, Roll, Same, Decides, Hardens, Sends, Receives, Applies, resumed, set_back, IsCut, IfFollowing, IsLeft, Begins, Follows, Happens, Reaches}
 use Rattle.lineage_defs.specs.Lineage.{IsFitSite, IsFit, IsNoRollOf, IsDurable}

@@ -5,11 +5,13 @@ use Rattle.std.proofs.lemmas.Option.{slice_get_within}
 use Rattle.std.specs.Option.{option_or}
 use Rattle.global_defs.specs.Entry.{Stamp, Entry, Sequence, Reign}
 use Rattle.global_defs.specs.Prefix.{IsPrefix, stamp_at}
-use Rattle.lineage_defs.specs.Histories.{begun_by, StartsRise, StampsChange, HasStamps, IsHistory}
+use Rattle.lineage_defs.specs.Histories.{StampsChange, HasStamps, IsHistory}
 use Rattle.lineage_defs.specs.Events.{reign_from, Adopts}
 use Rattle.resync_core.proofs.Fronts as lists
-use Rattle.resync_core.proofs.BegunReigns.{or_none, begun-first, begun-later, begun-begun, begun-push_late, AllBegun, all-begun, stamp-push, stamp-first, stamp-later, stamp-begun, stamp-begun_before, stamp-none}
+use Rattle.resync_core.proofs.BegunReigns.{begun-first, begun-later, begun-begun, begun-push_late, AllBegun, all-begun, stamp-push, stamp-first, stamp-later, stamp-begun, stamp-begun_before, stamp-none}
 use Rattle.global_defs.proofs.Lists.{get-push}
+use Rattle.global_defs.specs.Rising.{StartsRise, begun_by}
+use Rattle.global_defs.proofs.Basics.{or_none}
 
 -- Starts
 

@@ -1,10 +1,12 @@
 -- The steps of two runs.
 use Rattle.std.proofs.Common.{◌≡◌, inl, inr, ℕ, zero, suc, ◌<◌, ◌≤◌, List, [], ◌∷◌, ◌++◌, length, take, replicate, Some, None, slice_get, refl, sym, ◌∙◌, ap, subst, arith}
+use Rattle.global_defs.specs.declared.limits.TheConstants.{MOST_REIGNS}
 use Rattle.global_defs.specs.Entry.{Update, Stamp, Sequence, Reign}
 use Rattle.global_defs.specs.Serial.{entry_of, serial_at}
 use Rattle.global_defs.specs.Prefix.{stamp_at}
-use Rattle.lineage_defs.specs.Lists.{At}
-use Rattle.lineage_defs.specs.Histories.{MOST_REIGNS, begun_by, BothHave, IsCommonOf}
+use Rattle.global_defs.specs.Rising.{begun_by}
+use Rattle.global_defs.specs.Beside.{At}
+use Rattle.lineage_defs.specs.Histories.{BothHave, IsCommonOf}
 use Rattle.lineage_defs.specs.Sites.{Role, Down, Primary, Following, Site, World, hardened_part, history, fresh}
 use Rattle.lineage_defs.specs.Events.{Event, Decide, Harden, Send, Receive, Apply, Crash, Begin, Roll, Same, Keeps, picked_once, Decides, Hardens, reign_from, Adopts, IsLeft, drawn, Begins, Follows, Reaches}
 use Rattle.lineage_defs.specs.Lineage.{IsFit}

@@ -4,7 +4,8 @@ use Rattle.std.proofs.lemmas.Bool.{cases_lt}
 use Rattle.global_defs.specs.Entry.{Entry, Sequence, Reign}
 use Rattle.global_defs.specs.Prefix.{IsPrefix, IsCommon, History}
 use Rattle.global_defs.specs.Extract.{header, entries_text}
-use Rattle.lineage_defs.specs.Histories.{begun_by, HasStamps, BothHave, IsCommonOf, told, IsLongestCommon}
+use Rattle.global_defs.specs.Rising.{begun_by}
+use Rattle.lineage_defs.specs.Histories.{HasStamps, BothHave, IsCommonOf, told, IsLongestCommon}
 use Rattle.lineage_defs.specs.Sites.{Site, World, history}
 use Rattle.lineage_defs.specs.Events.{Roll, IsLeft, IfFollowing, set_back, Happens}
 use Rattle.lineage_defs.specs.Lineage.{Agree, IsFit, IsRolledTo}

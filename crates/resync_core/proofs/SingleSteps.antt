@@ -1,13 +1,14 @@
 -- Single steps, as lists of events.
 use Rattle.std.proofs.Common.{◌≡◌, ◌≢◌, ◌⊎◌, inl, inr, ℕ, zero, suc, ◌+◌, ◌≤◌, nat_lt, Bool, true, false, List, [], ◌∷◌, ◌++◌, length, map, set, Option, Some, None, slice_get, refl, sym, ◌∙◌, ap, subst, arith, append_assoc, length-append, length-take-le, take, if◌then◌else◌}
 use Rattle.std.proofs.Math.Seq.{set-set}
+use Rattle.global_defs.specs.declared.limits.TheConstants.{MOST_UPDATERS}
 use Rattle.global_defs.specs.Entry.{Update, Stamp, Entry, Sequence, Reign, state}
 use Rattle.global_defs.specs.Jobs.{Job, Answers, SeqLimit}
 use Rattle.global_defs.specs.Evaluation.{Evaluated, Done, RolledBack, eval}
 use Rattle.global_defs.specs.Serial as serials
 use Rattle.global_defs.specs.Serial.{MOST_ENTRIES, Turn, Seq, entry_of, serial_at, replied, next_job, picked, serial}
 use Rattle.global_defs.specs.Prefix.{IsPrefix}
-use Rattle.lineage_defs.specs.Lists.{Along, At}
+use Rattle.global_defs.specs.Beside.{Along, At}
 use Rattle.lineage_defs.specs.Histories.{IsHistory}
 use Rattle.lineage_defs.specs.Sites.{Down, Primary, Following, Site, World, hardened_part}
 use Rattle.lineage_defs.specs.Events.{Event, Decide, Send, Receive, Apply, Same, picked_once, Decides, Sends, Receives, Adopts, Applies, IsLeft, Reaches}
@@ -66,7 +67,7 @@ picks-decided stamp u t (RolledBack cause) = (refl, inl refl)
 picks-decided stamp u t (Done [] answers) = (refl, inl refl)
 picks-decided stamp u t (Done (x ∷ xs) answers) = picks-fitting stamp u t (x ∷ xs) answers (nat_lt (length t.sequence) MOST_ENTRIES)
 
-decides : (a : Site) (stamp : Stamp) (u : ℕ) (t new : Turn) → a.role ≡ Primary stamp t.serials → a.sequence ≡ t.sequence → 1 ≤ u → u ≤ 64 → Picks stamp u t new
+decides : (a : Site) (stamp : Stamp) (u : ℕ) (t new : Turn) → a.role ≡ Primary stamp t.serials → a.sequence ≡ t.sequence → 1 ≤ u → u ≤ MOST_UPDATERS → Picks stamp u t new
     → Decides u a (as_decided a stamp new)
 decides a stamp u t new role same least most picks = record {
   stamp = stamp;

@@ -1,10 +1,12 @@
 -- Each event is a step that keeps a world fit.
 use Rattle.std.proofs.Common.{◌≡◌, inl, inr, ℕ, suc, ◌+◌, ◌<◌, ◌≤◌, List, [], ◌∷◌, ◌++◌, length, take, replicate, Some, slice_get, refl, sym, ◌∙◌, ap, subst, arith, length-append, length-take-le}
+use Rattle.global_defs.specs.declared.limits.TheConstants.{MOST_REIGNS, MOST_UPDATERS}
 use Rattle.global_defs.specs.Entry.{Update, Stamp, Entry, Sequence, Reign}
 use Rattle.global_defs.specs.Serial.{entry_of, serial_at}
 use Rattle.global_defs.specs.Prefix.{IsPrefix}
-use Rattle.lineage_defs.specs.Lists.{At}
-use Rattle.lineage_defs.specs.Histories.{MOST_REIGNS, begun_by, StartsRise, StampsChange, IsHistory}
+use Rattle.global_defs.specs.Rising.{StartsRise, begun_by}
+use Rattle.global_defs.specs.Beside.{At}
+use Rattle.lineage_defs.specs.Histories.{StampsChange, IsHistory}
 use Rattle.lineage_defs.specs.Sites.{Down, Primary, Following, Waiting, Site, World, hardened_part}
 use Rattle.lineage_defs.specs.Events.{Event, Decide, Harden, Send, Receive, Apply, Cut, Crash, Begin, Follow, Roll, Same, Keeps, picked_once, Decides, Hardens, Sends, Receives, reign_from, Adopts, Applies, resumed, set_back, IsCut, IfFollowing, IsLeft, drawn, Begins, Follows, Happens, Reaches}
 use Rattle.lineage_defs.specs.Lineage.{HasPrimary, IsFitSite, IsFit}
@@ -89,7 +91,7 @@ undecided w v h i u old stamp serials was role =
 
 -- a pick that appends an entry
 decided : (w v : World) → IsFit w → (i u : ℕ) (old : Site) (stamp : Stamp) (serials : List ℕ) (updates : List Update) → slice_get w i ≡ Some old
-    → old.role ≡ Primary stamp serials → 1 ≤ u → u ≤ 64
+    → old.role ≡ Primary stamp serials → 1 ≤ u → u ≤ MOST_UPDATERS
     → Move w v i old (record old { sequence = old.sequence ++ entry_of stamp u (serial_at serials u) updates ∷ []; role = Primary stamp (picked_once serials u) })
 decided w v h i u old stamp serials updates was role least most =
     let f = h.each i old was in let r = f.reigning stamp serials role in

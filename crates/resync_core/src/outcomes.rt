@@ -1,10 +1,12 @@
 // What disks may hold after a crash.
 ghost use Rattle.std.specs.Prelude.{◌≡◌, ℕ, ◌≤◌, length, slice_get, Some};
+ghost use Rattle.global_defs.specs.declared.limits.TheConstants.{MOST_REIGNS};
 ghost use Rattle.global_defs.specs.Entry.{Sequence};
 ghost use Rattle.global_defs.specs.Prefix.{IsPrefix};
-ghost use Rattle.lineage_defs.specs.Histories.{MOST_REIGNS, begun_by, IsHistory};
+ghost use Rattle.global_defs.specs.Rising.{SerialsRise, begun_by};
+ghost use Rattle.lineage_defs.specs.Histories.{IsHistory};
 ghost use Rattle.lineage_defs.specs.Sites.{Following, Site, World};
-ghost use Rattle.lineage_defs.specs.Lineage.{Agree, SerialsRise, HasCycles, IsFit};
+ghost use Rattle.lineage_defs.specs.Lineage.{Agree, HasCycles, IsFit};
 ghost use Rattle.lineage_defs.specs.Outcomes.{IsOutcome};
 
 /// Whatever a crash leaves of each site of a fit world, any two of these sequences agree and know

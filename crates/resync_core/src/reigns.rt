@@ -1,8 +1,10 @@
 // Reigns as they begin and are dropped, and what a secondary is told of them.
 ghost use Rattle.std.specs.Prelude.{◌≡◌, ℕ, suc, ◌<◌, ◌≤◌, List, [], ◌∷◌, ◌++◌, length, slice_get, Some};
+ghost use Rattle.global_defs.specs.declared.limits.TheConstants.{MOST_REIGNS};
 ghost use Rattle.global_defs.specs.Entry.{Stamp, Reign, Sequence};
 ghost use Rattle.global_defs.specs.Prefix.{IsPrefix, stamp_at};
-ghost use Rattle.lineage_defs.specs.Histories.{MOST_REIGNS, begun_by, IsHistory};
+ghost use Rattle.global_defs.specs.Rising.{begun_by};
+ghost use Rattle.lineage_defs.specs.Histories.{IsHistory};
 ghost use Rattle.lineage_defs.specs.Sites.{Site, World};
 ghost use Rattle.lineage_defs.specs.Events.{Adopts};
 ghost use Rattle.lineage_defs.specs.Lineage.{IsFit};

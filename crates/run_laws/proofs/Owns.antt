@@ -1,8 +1,9 @@
 -- The row of a command at the place of the site that it names.
 use Rattle.std.proofs.Common.{◌≡◌, ℕ, zero, suc, Bool, cond, List, [], ◌∷◌, Option, Some, slice_get, refl, sym, ◌∙◌, ap, subst}
 use Rattle.std.specs.Prelude.{option_map}
+use Rattle.global_defs.specs.Beside.{Along, At}
 use Rattle.command_defs.specs.Commands.{Name}
-use Rattle.site_defs.specs.Lists.{Along, At, first_where}
+use Rattle.site_defs.specs.Lists.{first_where}
 use Rattle.world_defs.specs.World.{Place, World, Kept, is_site_named, place_of}
 use Rattle.world_defs.specs.Answers.{Answer, NoSite}
 use Rattle.world_defs.specs.Row.{Row, Here}

@@ -7,6 +7,7 @@ use Rattle.std.specs.declared.result.Result.TheVariants.{Ok, Err}
 use Rattle.std.proofs.lemmas.List.{append-nil, take-append-drop}
 use Rattle.std.proofs.lemmas.Slice.Eq.{bytes_eq-Decides}
 use Rattle.std.proofs.lemmas.Bool.{and_parts, cases_Bool, eqb-true, ltb-false, ne_eqb}
+use Rattle.global_defs.specs.declared.limits.TheConstants.{LONGEST_VALUE}
 use Rattle.global_defs.specs.Key.{Key, Sub, Text}
 use Rattle.global_defs.specs.Jobs.{Statement, Set, Kill, ZKill, Incr, Get, Defined, Order, CheckIs, CheckAtLeast}
 use Rattle.global_defs.specs.NodeText.{sub_bytes}
@@ -106,13 +107,13 @@ value_found t v e = elim (chosen (is_number t) (Ok t) (zwr_reading t) (Ok v) e) 
   | inr h ↦ string (zwr_found t v h.1)
 ]
 
-sized_found : (len : ℕ) (left rest w v : List ℕ) → sized len left rest w ≡ Ok v → (rest ≡ []) × (w ≡ v) × (length v ≤ 1500)
-sized_found len left rest w v e = elim (chosen (nat_lt 1500 (length w)) (Err (cond (length rest == 0) (too_long len left) (bad len left))) (alone len rest w) (Ok v) e) [
+sized_found : (len : ℕ) (left rest w v : List ℕ) → sized len left rest w ≡ Ok v → (rest ≡ []) × (w ≡ v) × (length v ≤ LONGEST_VALUE)
+sized_found len left rest w v e = elim (chosen (nat_lt LONGEST_VALUE (length w)) (Err (cond (length rest == 0) (too_long len left) (bad len left))) (alone len rest w) (Ok v) e) [
   | inl h ↦ absurd (cc h.1)
   | inr h ↦ let a = alone_found len rest w v h.1 in (a.0, a.1, omega (arith, ltb-false 1500 (length w) h.0, ap (λ x. length x) a.1))
 ]
 
-last_value_found : (len : ℕ) (t v : List ℕ) → last_value len t ≡ Ok v → IsSubText t v × (length v ≤ 1500)
+last_value_found : (len : ℕ) (t v : List ℕ) → last_value len t ≡ Ok v → IsSubText t v × (length v ≤ LONGEST_VALUE)
 last_value_found len t v e =
     let n = word_end t in
     let f = followed_found (valued len t (value_reading (take n t))) (sized len t (drop n t)) v e in
@@ -124,7 +125,7 @@ record IsAssigned (left v : List ℕ) : Type 0 where
   pub text : List ℕ
   pub whole : left ≡ 61 ∷ text
   pub value : IsSubText text v
-  pub few : length v ≤ 1500
+  pub few : length v ≤ LONGEST_VALUE
 
 assigned_found : (len : ℕ) (left v : List ℕ) → assigned len left ≡ Ok v → IsAssigned left v
 assigned_found len [] v e = cc
@@ -148,7 +149,7 @@ record IsSetting (left : List ℕ) (key : Key) (value : List ℕ) : Type 0 where
   pub whole : left ≡ key_text ++ (61 ∷ value_text)
   pub node : IsNode key_text key
   pub value_is : IsSubText value_text value
-  pub few : length value ≤ 1500
+  pub few : length value ≤ LONGEST_VALUE
 
 value_statement_found : (make : Key → List ℕ → Statement) (len : ℕ) (left : List ℕ) (n : ℕ) (s : Statement) → value_statement make len left n ≡ Ok s
     → (key : Key) × (value : List ℕ) × IsSetting left key value × (make key value ≡ s)

@@ -8,6 +8,7 @@ use Rattle.std.proofs.Math.Seq.{take-append_seam, drop-append_seam, take-length,
 use Rattle.std.proofs.lemmas.List.{append_cancel_right, length-map}
 use Rattle.std.proofs.lemmas.Str.Parse.{digit_from_value}
 use Rattle.std.proofs.lemmas.Bool.{and_parts, cases_Bool, eq-eqb, ne_eqb, le-ltb, true≢false, both_ways}
+use Rattle.global_defs.specs.declared.limits.TheConstants.{LONGEST_VALUE}
 use Rattle.global_defs.specs.Key.{Key, Sub, Text, sub_of}
 use Rattle.global_defs.specs.Jobs.{Statement, Set, Kill, ZKill, Incr, Get, Defined, Order, CheckIs, CheckAtLeast}
 use Rattle.global_defs.specs.NodeText.{pointed, sub_bytes}
@@ -80,7 +81,7 @@ value_read : {t v : List ℕ} → IsSubText t v → value_reading t ≡ Ok v
 value_read (number s h) = rw h refl
 value_read (string {t} {v} z) = rw (string_no_number z) (zwr_complete t v z)
 
-value_whole : (len : ℕ) {t v : List ℕ} → IsSubText t v → length v ≤ 1500 → last_value len t ≡ Ok v
+value_whole : (len : ℕ) {t v : List ℕ} → IsSubText t v → length v ≤ LONGEST_VALUE → last_value len t ≡ Ok v
 value_whole len {t} {v} s few =
     ap (λ n. followed (valued len t (value_reading (take n t))) (sized len t (drop n t))) (ends_last 32 t (stay_value 32 (inl refl) s))
     ∙ (λ i. followed (valued len t (value_reading (take-length t i))) (sized len t (drop-length t i)))
@@ -114,7 +115,7 @@ node_whole len {t} {key} n =
     ∙ (λ i. followed (node_at len t (key_reading (take-length t i))) (alone len (drop-length t i)))
     ∙ ap (λ r. followed (node_at len t r) (alone len [])) (node_read n)
 
-value_statement_at : (make : Key → List ℕ → Statement) (len : ℕ) {k v value : List ℕ} {key : Key} → IsNode k key → IsSubText v value → length value ≤ 1500
+value_statement_at : (make : Key → List ℕ → Statement) (len : ℕ) {k v value : List ℕ} {key : Key} → IsNode k key → IsSubText v value → length value ≤ LONGEST_VALUE
     → value_statement make len (k ++ (61 ∷ v)) (length k) ≡ Ok (make key value)
 value_statement_at make len {k} {v} {value} {key} n s few =
     let left : List ℕ = k ++ (61 ∷ v) in
@@ -125,7 +126,7 @@ value_statement_at make len {k} {v} {value} {key} n s few =
 key_place : {k : List ℕ} {key : Key} (v : List ℕ) → IsNode k key → key_end (k ++ (61 ∷ v)) ≡ length k
 key_place {k} v n = ends_before 61 k 61 v (stay_node 61 (inr refl) n) refl
 
-set_read : (len : ℕ) {k v value : List ℕ} {key : Key} → IsNode k key → IsSubText v value → length value ≤ 1500
+set_read : (len : ℕ) {k v value : List ℕ} {key : Key} → IsNode k key → IsSubText v value → length value ≤ LONGEST_VALUE
     → value_statement Set len (k ++ (61 ∷ v)) (key_end (k ++ (61 ∷ v))) ≡ Ok (Set key value)
 set_read len {k} {v} n s few = ap (value_statement Set len (k ++ (61 ∷ v))) (key_place v n) ∙ value_statement_at Set len n s few
 
@@ -309,7 +310,7 @@ last_of_key (branched name {t} {subs} z) good =
 
 -- checks
 
-check_value_read : (len : ℕ) {k v value : List ℕ} {key : Key} → IsNode k key → IsSubText v value → length value ≤ 1500 → check_reading len (k ++ (61 ∷ v)) ≡ Ok (CheckIs key value)
+check_value_read : (len : ℕ) {k v value : List ℕ} {key : Key} → IsNode k key → IsSubText v value → length value ≤ LONGEST_VALUE → check_reading len (k ++ (61 ∷ v)) ≡ Ok (CheckIs key value)
 check_value_read len {k} {v} {value} {key} n s few =
     let left : List ℕ = k ++ (61 ∷ v) in
     ap (λ j. cond (is_at_least (take j left) (drop j left)) (check_integer len left (take j left) (drop j left)) (value_statement CheckIs len left j)) (key_place v n)

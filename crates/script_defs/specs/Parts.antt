@@ -3,6 +3,7 @@ use Rattle.std.specs.Prelude.{◌≡◌, ◌≤◌, ℕ, ℤ, suc, ◌+◌, ◌-
 use Rattle.std.specs.Str.{bytes_eq}
 use Rattle.std.specs.declared.result.Result.{Result}
 use Rattle.std.specs.declared.result.Result.TheVariants.{Ok, Err}
+use Rattle.global_defs.specs.declared.limits.TheConstants.{LONGEST_VALUE}
 use Rattle.global_defs.specs.Key.{Key, Sub, Text}
 use Rattle.global_defs.specs.NodeText.{sub_bytes}
 use Rattle.global_defs.specs.Numeral.{is_number, integer_of}
@@ -111,7 +112,7 @@ value_reading text = if is_number text then Ok text else zwr_reading text
 
 -- a value behind which nothing may come; one that is too long is bad where something comes
 abbrev pub sized : ℕ → List ℕ → List ℕ → List ℕ → Result (List ℕ) Fault
-sized len left rest value = if nat_lt 1500 (length value) then Err (if length rest == 0 then too_long len left else bad len left) else alone len rest value
+sized len left rest value = if nat_lt LONGEST_VALUE (length value) then Err (if length rest == 0 then too_long len left else bad len left) else alone len rest value
 
 abbrev pub last_value : ℕ → List ℕ → Result (List ℕ) Fault
 last_value len left = let n = word_end left in followed (valued len left (value_reading (take n left))) (sized len left (drop n left))

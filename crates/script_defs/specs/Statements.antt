@@ -4,6 +4,7 @@ use Rattle.std.specs.List.{flat_map}
 use Rattle.std.specs.Str.{bytes_eq}
 use Rattle.std.specs.declared.result.Result.{Result}
 use Rattle.std.specs.declared.result.Result.TheVariants.{Ok, Err}
+use Rattle.global_defs.specs.declared.limits.TheConstants.{LONGEST_VALUE}
 use Rattle.global_defs.specs.Key.{Key, Sub, sub_of}
 use Rattle.global_defs.specs.Jobs.{Statement, Set, Kill, ZKill, Incr, Get, Defined, Order, CheckIs, CheckAtLeast}
 use Rattle.global_defs.specs.Numeral.{integer_of, integer_text, is_counted}
@@ -16,14 +17,14 @@ use Rattle.script_defs.specs.Parts.{IsNode, IsLevel, Fault, BadChar, followed, w
 
 -- Words, and what stands behind them and the spaces. A value is written as a subscript is: a canonical numeral, or any pieces in ZWR form.
 pub data IsOperand : (word text : List ℕ) (s : Statement) → Type 0 where
-  set : {k v value : List ℕ} {key : Key} → IsNode k key → IsSubText v value → length value ≤ 1500 → IsOperand (codes "SET") (k ++ 61 ∷ v) (Set key value)
+  set : {k v value : List ℕ} {key : Key} → IsNode k key → IsSubText v value → length value ≤ LONGEST_VALUE → IsOperand (codes "SET") (k ++ 61 ∷ v) (Set key value)
   kill : {k : List ℕ} {key : Key} → IsNode k key → IsOperand (codes "KILL") k (Kill key)
   zkill : {k : List ℕ} {key : Key} → IsNode k key → IsOperand (codes "ZKILL") k (ZKill key)
   incr : {k : List ℕ} {key : Key} {n : ℤ} (d : List ℕ) (more : ℕ) → IsNode k key → integer_of d ≡ Some n → IsOperand (codes "INCR") (k ++ 32 ∷ (replicate more 32 ++ d)) (Incr key n)
   get : {k : List ℕ} {key : Key} → IsNode k key → IsOperand (codes "GET") k (Get key)
   defined : {k : List ℕ} {key : Key} → IsNode k key → IsOperand (codes "DATA") k (Defined key)
   order : {k last : List ℕ} {key : Key} → IsLevel k key last → IsOperand (codes "ORDER") k (Order key last)
-  check_is : {k v value : List ℕ} {key : Key} → IsNode k key → IsSubText v value → length value ≤ 1500 → IsOperand (codes "CHECK") (k ++ 61 ∷ v) (CheckIs key value)
+  check_is : {k v value : List ℕ} {key : Key} → IsNode k key → IsSubText v value → length value ≤ LONGEST_VALUE → IsOperand (codes "CHECK") (k ++ 61 ∷ v) (CheckIs key value)
   check_at_least : {k : List ℕ} {key : Key} {n : ℤ} (d : List ℕ) → IsNode k key → integer_of d ≡ Some n → IsOperand (codes "CHECK") (k ++ 62 ∷ 61 ∷ d) (CheckAtLeast key n)
 
 -- The text is the word, one space or more, and the operand.
@@ -100,7 +101,7 @@ abbrev pub IsKey : Key → Type 0
 IsKey key = (is_key key ≡ true) × AreBytes key
 
 abbrev pub IsValue : List ℕ → Type 0
-IsValue value = IsBytes value × (length value ≤ 1500)
+IsValue value = IsBytes value × (length value ≤ LONGEST_VALUE)
 
 -- an empty last subscript leaves room for 30 before it; any other makes a key with them
 abbrev pub HasLevel : Key → List ℕ → Type 0

@@ -1,5 +1,6 @@
 -- A connection from its making to its answer, or to its giving back.
 use Rattle.std.proofs.Common.{◌≡◌, ◌⊎◌, inl, inr, ℕ, ◌+◌, ◌^◌, ◌<◌, ◌≤◌, Bool, true, false, IsTrue, nat_lt, Option, Result, Ok, Err, IfErr, OnOk, List, [], ◌∷◌, ◌++◌, map, refl, sym, ap, subst, ◌∙◌, arith, append_assoc}
+use Rattle.global_defs.specs.declared.limits.TheConstants.{NUMBERS_END}
 use Rattle.global_defs.specs.Entry.{Globals}
 use Rattle.global_defs.specs.Prefix as prefix
 use Rattle.global_defs.specs.Prefix.{IsPrefix}
@@ -69,7 +70,7 @@ is_open a b s v w u x same ut ur dt dr zero up down going =
     }
 
 -- Over links that tell their bytes: the secondary's HELLO is admitted, the answer is the primary's to it, and all of it was sent.
-pub answer_is : (theirs mine : prefix.History) (name : List ℕ) (told shown : Bool) (w u : Views) (begun : Heard) (s : Listening) (put : List Arrival) (free : ℕ) (heard answer : Handshake) → mine.length < 2 ^ 40 → IsTrue told → IsTrue shown
+pub answer_is : (theirs mine : prefix.History) (name : List ℕ) (told shown : Bool) (w u : Views) (begun : Heard) (s : Listening) (put : List Arrival) (free : ℕ) (heard answer : Handshake) → mine.length < NUMBERS_END → IsTrue told → IsTrue shown
     → HasAsked (greeting name mine) told w → HasAnswered theirs told shown w answer → HasAnswer begun s shown w.down_rx.received put free heard
     → SendingLooked w.up_tx u.up_tx → ReceivingLooked w.up_rx u.up_rx → SendingLooked w.down_tx u.down_tx → ReceivingLooked w.down_rx u.down_rx → KnowAll u.up_tx u.down_rx → KnowAll u.down_tx u.up_rx
     → IsHello (greeting name mine) × IsAnswer theirs (carried mine) (answer_frame heard) × (u.up_tx.sent ≡ spelled_frame (answer_frame heard))
@@ -97,7 +98,7 @@ bad_over theirs mine told shown p v x offset e1 e2 e3 e4 (inr bad) = inr (λ g.
     (bad_all p (unbegun mine) g (map answer_frame bad.frames) v.down_rx.received v.down_rx.closed offset bad.unfit (answers_fit g bad.frames))))
 
 -- over links that tell their bytes it is the HELLO that isn't admitted
-pub bad_is : (theirs mine : prefix.History) (name : List ℕ) (told shown : Bool) (p : Purpose) (v : Views) (offset : ℕ) → mine.length < 2 ^ 40 → IsTrue told → IsTrue shown → HasAsked (greeting name mine) told v
+pub bad_is : (theirs mine : prefix.History) (name : List ℕ) (told shown : Bool) (p : Purpose) (v : Views) (offset : ℕ) → mine.length < NUMBERS_END → IsTrue told → IsTrue shown → HasAsked (greeting name mine) told v
     → links.Carries v.up_tx v.down_rx → links.Carries v.down_tx v.up_rx
     → (IsBadToPrimary v.up_rx.received v.up_rx.closed offset) ⊎ HasBadAnswer theirs told shown p (unbegun mine) v offset → (offset ≡ 0) × (IsHello (greeting name mine) → ⊥)
 bad_is theirs mine name told shown p v offset few t y asked up down (inl bad) =

@@ -3,10 +3,11 @@ use Rattle.std.proofs.Common.{◌≡◌, ℕ, zero, suc, ◌+◌, ◌*◌, ◌^�
 use Rattle.std.specs.Int.{to_be_bytes, w32, w64}
 use Rattle.std.specs.List.{AllByRecursion, flat_map}
 use Rattle.std.proofs.lemmas.List.{take-append-le, take_all, length-take}
+use Rattle.global_defs.specs.declared.limits.TheConstants.{MOST_REIGNS, NUMBERS_END}
 use Rattle.global_defs.specs.Entry.{Reign}
 use Rattle.global_defs.specs.Fields.{IsReign, IsSiteName, short}
 use Rattle.global_defs.specs.Prefix.{History}
-use Rattle.lineage_defs.specs.Histories.{MOST_REIGNS, begun_by}
+use Rattle.global_defs.specs.Rising.{begun_by}
 use Rattle.wire_defs.specs.Frames.{Hello, IsFrame, spelled_reign}
 use Rattle.ship_defs.specs.Greeting.{carried, greeting}
 
@@ -57,7 +58,7 @@ reigns_few (r ∷ rs) a =
     let later = reigns_few rs a.1 in
     omega (arith, size, here, later)
 
-pub hello_form : (name : List ℕ) (h : History) → IsSiteName name → h.length < 2 ^ 40 → AllByRecursion IsReign h.reigns → length h.reigns ≤ 32769 → IsFrame (Hello 1 name h)
+pub hello_form : (name : List ℕ) (h : History) → IsSiteName name → h.length < NUMBERS_END → AllByRecursion IsReign h.reigns → length h.reigns ≤ 32769 → IsFrame (Hello 1 name h)
 hello_form name h named few form count =
     let last = length-append (short name ++ to_be_bytes w64 h.length ++ to_be_bytes w32 (length h.reigns)) (flat_map spelled_reign h.reigns) in
     let behind = length-append (short name ++ to_be_bytes w64 h.length) (to_be_bytes w32 (length h.reigns)) in
@@ -66,7 +67,7 @@ hello_form name h named few form count =
     let short_name = name_few name named in
     record { fields = (refl, named, few, omega (arith, count), form); short = omega (arith, last, behind, front, some, short_name, count) }
 
-pub greeting_form : (name : List ℕ) (mine : History) → IsSiteName name → mine.length < 2 ^ 40 → AllByRecursion IsReign mine.reigns → IsFrame (greeting name mine)
+pub greeting_form : (name : List ℕ) (mine : History) → IsSiteName name → mine.length < NUMBERS_END → AllByRecursion IsReign mine.reigns → IsFrame (greeting name mine)
 greeting_form name mine named few form =
     let size = length-take (MOST_REIGNS + 1) (begun_by mine.length mine.reigns) in
     hello_form name (carried mine) named few (all_told (MOST_REIGNS + 1) mine.length mine.reigns form) (omega (arith, size))

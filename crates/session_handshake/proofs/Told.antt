@@ -1,5 +1,6 @@
 -- Over links that tell their bytes: what came is what was sent, so the answer is the primary's, and the HELLO alone can be bad.
 use Rattle.std.proofs.Common.{◌≡◌, ℕ, ◌+◌, ◌^◌, ◌<◌, Bool, true, false, IsTrue, List, [], ◌∷◌, ◌++◌, refl, sym, ap, subst, ◌∙◌, arith, append_assoc, append-nil}
+use Rattle.global_defs.specs.declared.limits.TheConstants.{NUMBERS_END}
 use Rattle.global_defs.specs.Prefix as prefix
 use Rattle.global_defs.specs.Prefix.{IsPrefix}
 use Rattle.wire_defs.specs.Frames.{Frame, Hello, Resume, RollbackFirst, History, Entry, Bye, IsFrame, spelled_frame, stream}
@@ -34,7 +35,7 @@ hello_told theirs mine name bytes more left sent answer form e k g =
     (subst IsHello same g.admitted, subst (λ (f : Frame). Answers theirs f answer) same g.answers)
 
 -- an answer is a well-formed frame
-pub answer_form : (theirs mine : prefix.History) (answer : Frame) → mine.length < 2 ^ 40 → IsAnswer theirs mine answer → IsFrame answer
+pub answer_form : (theirs mine : prefix.History) (answer : Frame) → mine.length < NUMBERS_END → IsAnswer theirs mine answer → IsFrame answer
 answer_form theirs mine (Resume n) few a = record { fields = (omega (arith, a.1), omega (arith, a.1, few)); short = omega arith }
 answer_form theirs mine (RollbackFirst n) few a = record { fields = (omega (arith, a.3), omega (arith, a.2, a.3, few)); short = omega arith }
 answer_form theirs mine (Hello version name history) few a = absurd a
@@ -89,14 +90,14 @@ bad_hello f bytes more offset form e bad =
 abbrev has_come : Purpose → Heard → List ℕ → Frame → Type 0
 has_come p h bytes last = EndsWith (Fits p) (λ x. IsOver x.last) h bytes last
 
-bye : (n : ℕ) → n < 2 ^ 40 → IsFrame (Bye n)
+bye : (n : ℕ) → n < NUMBERS_END → IsFrame (Bye n)
 bye n few = record { fields = few; short = omega arith }
 
 two_frames : (f g : Frame) → spelled_frame f ++ spelled_frame g ≡ stream (f ∷ g ∷ []) ++ []
 two_frames f g = sym (append-nil (spelled_frame f ++ (spelled_frame g ++ [])) ∙ ap (λ (l : List ℕ). spelled_frame f ++ l) (append-nil (spelled_frame g)))
 
 -- behind the answer the direction may be whole
-resumed_whole : (p : Purpose) (mine : prefix.History) (n : ℕ) → mine.length < 2 ^ 40 → IsFrame (Resume n) → n ≡ mine.length + 1 → (more : List ℕ) × (last : Frame) × has_come p (unbegun mine) (spelled_frame (Resume n) ++ more) last
+resumed_whole : (p : Purpose) (mine : prefix.History) (n : ℕ) → mine.length < NUMBERS_END → IsFrame (Resume n) → n ≡ mine.length + 1 → (more : List ℕ) × (last : Frame) × has_come p (unbegun mine) (spelled_frame (Resume n) ++ more) last
 resumed_whole Asks mine n few form is = (
   [],
   Resume n,
@@ -121,7 +122,7 @@ resumed_whole Ships mine n few form is = (
   },
 )
 
-answer_whole : (p : Purpose) (theirs mine : prefix.History) (answer : Frame) → mine.length < 2 ^ 40 → IsAnswer theirs (carried mine) answer → (more : List ℕ) × (last : Frame) × has_come p (unbegun mine) (spelled_frame answer ++ more) last
+answer_whole : (p : Purpose) (theirs mine : prefix.History) (answer : Frame) → mine.length < NUMBERS_END → IsAnswer theirs (carried mine) answer → (more : List ℕ) × (last : Frame) × has_come p (unbegun mine) (spelled_frame answer ++ more) last
 answer_whole p theirs mine (Resume n) few a = resumed_whole p mine n few (answer_form theirs (carried mine) (Resume n) few a) a.1
 answer_whole p theirs mine (RollbackFirst n) few a = (
   [],
@@ -142,7 +143,7 @@ answer_whole p theirs mine (Entry n t) few a = absurd a
 answer_whole p theirs mine (Bye n) few a = absurd a
 
 -- so no beginning of it is bad
-pub never_unfit : (p : Purpose) (theirs mine : prefix.History) (answer : Frame) (frames : List Frame) (received more : List ℕ) (offset : ℕ) → mine.length < 2 ^ 40 → IsAnswer theirs (carried mine) answer
+pub never_unfit : (p : Purpose) (theirs mine : prefix.History) (answer : Frame) (frames : List Frame) (received more : List ℕ) (offset : ℕ) → mine.length < NUMBERS_END → IsAnswer theirs (carried mine) answer
     → received ++ more ≡ spelled_frame answer → IsUnfitBehind p (unbegun mine) frames received false offset → ⊥
 never_unfit p theirs mine answer frames received more offset few a e unfit =
     let w = answer_whole p theirs mine answer few a in

@@ -1,8 +1,9 @@
 -- A primary's answer to frames.
 use Rattle.std.specs.Prelude.{◌≡◌, ◌≢◌, ◌⊎◌, ℕ, ◌+◌, ◌-◌, ◌<◌, ◌≤◌, Bool, true, false, IsTrue, List, [], ◌∷◌, length, if◌then◌else◌, Option, Some, None, Result, Ok, Err}
 use Rattle.std.specs.List.{AllByRecursion}
+use Rattle.global_defs.specs.declared.limits.TheConstants.{MOST_REIGNS}
 use Rattle.global_defs.specs.Prefix as prefix
-use Rattle.lineage_defs.specs.Histories.{MOST_REIGNS, StartsRise}
+use Rattle.global_defs.specs.Rising.{StartsRise}
 use Rattle.wire_defs.specs.Frames.{Frame, Hello, Resume, RollbackFirst, History, Entry, Bye, Reading, IsFrame, BeginsFrame, spelled_frame}
 use Rattle.ship_defs.specs.Arrivals.{Arrival}
 use Rattle.ship_defs.specs.Greeting.{IsHello, IsAnswer}

@@ -1,6 +1,7 @@
 // A primary's answer to a HELLO.
 ghost use Rattle.std.specs.Prelude.{◌≡◌, ◌∷◌, ◌++◌, ◌<◌, ◌^◌};
 ghost use Rattle.std.specs.Int.{to_be_bytes, w64};
+ghost use Rattle.global_defs.specs.declared.limits.TheConstants.{NUMBERS_END};
 ghost use Rattle.gvn_model.specs.Entries.{history_value};
 ghost use Rattle.wire_defs.specs.Frames.{spelled_frame};
 ghost use Rattle.ship_defs.specs.Greeting.{IsAnswer};
@@ -12,7 +13,7 @@ use resync_core::common;
 
 // What a primary answers a secondary that told it this history.
 pub(crate) fn answer(theirs: &History, its: &History) -> Handshake
-    requires { its.now.length < 2 ^ 40 }
+    requires { its.now.length < NUMBERS_END }
     ensures { IsAnswer (history_value theirs.now) (history_value its.now) (answer_frame result) }
 {
     let shared = common(theirs, its);

@@ -1,6 +1,7 @@
 // A connection is begun.
 ghost use Rattle.std.specs.Prelude.{◌≡◌, ◌⊎◌, ◌<◌, ◌^◌, [], ◌∷◌, false, true, List, ℕ, IsTrue, IfOk, IfErr, OnOk, IsErrOf};
 ghost use Rattle.std.specs.List.{AllByRecursion};
+ghost use Rattle.global_defs.specs.declared.limits.TheConstants.{NUMBERS_END};
 ghost use Rattle.global_defs.specs.Fields.{IsReign, IsSiteName};
 ghost use Rattle.gvn_model.specs.Entries.{history_value};
 ghost use Rattle.wire_defs.specs.Frames.{Frame, spelled_frame};
@@ -76,7 +77,7 @@ const PLACES: usize = 1;
 
 // A secondary with that history, before a connection's first byte.
 fn begin_hearing(alloc: Global, mine: &History, purpose: Purpose) -> Result<Hearing, NoMemory>
-    requires few { mine.now.length < 2 ^ 40 }
+    requires few { mine.now.length < NUMBERS_END }
     requires form { AllByRecursion IsReign (history_value mine.now).reigns }
     ensures purpose { IfOk result (λ h. h.receiver.purpose ≡ purpose_value purpose) }
     ensures begun { IfOk result (λ h. h.receiver.heard ≡ unbegun (history_value mine.now)) }
@@ -117,7 +118,7 @@ fn talk<L: Linker>(
     ends: &mut Ends<L::Tx, L::Rx>,
     hearing: &mut Hearing,
 ) -> Result<Handshake, GreetError>
-    requires few { mine.now.length < 2 ^ 40 }
+    requires few { mine.now.length < NUMBERS_END }
     requires form { AllByRecursion IsReign (history_value mine.now).reigns }
     requires name { IsSiteName name.now }
     requires lines { HaveLines L.Tx.line L.Rx.line ends.old }
@@ -166,7 +167,7 @@ pub fn greet<L: Linker>(
     links: &mut L,
     session: u32,
 ) -> Result<Greeted<L::Tx, L::Rx>, GreetError>
-    requires few { mine.now.length < 2 ^ 40 }
+    requires few { mine.now.length < NUMBERS_END }
     requires form { AllByRecursion IsReign (history_value mine.now).reigns }
     requires name { IsSiteName name.now }
     ensures pool { IfOk result (λ g. IsPool g.hearing.into g.hearing.out × (taken g.hearing.out ≡ [])) }

@@ -1,27 +1,25 @@
 // The HELLO of a secondary, and whether a primary admits one.
-ghost use Rattle.std.specs.Prelude.{◌≡◌, ◌↔◌, ◌+◌, ◌≤◌, ◌<◌, ◌^◌, IsTrue, IfOk, map, take, length};
+ghost use Rattle.std.specs.Prelude.{◌≡◌, ◌↔◌, ◌+◌, ◌≤◌, ◌<◌, IsTrue, IfOk, map, take, length};
 ghost use Rattle.std.specs.List.{AllByRecursion};
+ghost use Rattle.global_defs.specs.declared.limits.TheConstants.{NUMBERS_END};
 ghost use Rattle.global_defs.specs.Entry as defs;
 ghost use Rattle.global_defs.specs.Fields.{IsReign, IsSiteName};
+ghost use Rattle.global_defs.specs.Rising.{StartsRise, begun_by};
 ghost use Rattle.gvn_model.specs.Reigns.{reign_value};
 ghost use Rattle.gvn_model.specs.Entries.{history_value};
-ghost use Rattle.lineage_defs.specs.Histories as lineage;
-ghost use Rattle.lineage_defs.specs.Histories.{StartsRise, begun_by};
 ghost use Rattle.wire_defs.specs.Frames.{spelled_frame};
 ghost use Rattle.ship_defs.specs.Greeting as ship;
 ghost use Rattle.session_handshake.specs.Answering.{TellsHistory};
 
+use global_defs::limits::MOST_REIGNS;
 use gvn_key::{Bytes, NoMemory};
 use gvn_model::{History, Reign, Reigns};
 use repl_wire::{Frame, write_frame};
 use std::alloc::Global;
 
-// How many reigns a HELLO that is admitted may have.
-const MOST_REIGNS: usize = 32_768;
-
 // The reigns that have begun by a number, or one more than there may be of them.
 fn told_reigns(alloc: Global, reigns: &[Reign], number: u64) -> Result<Reigns, NoMemory>
-    ensures { IfOk result (λ told. told ≡ take (lineage.MOST_REIGNS + 1) (begun_by number (map reign_value reigns.now))) }
+    ensures { IfOk result (λ told. told ≡ take (MOST_REIGNS + 1) (begun_by number (map reign_value reigns.now))) }
 {
     let mut told = Reigns::new(alloc);
     for reign in reigns {
@@ -44,7 +42,7 @@ fn carried(alloc: Global, mine: &History) -> Result<History, NoMemory>
 
 // The bytes of a secondary's HELLO.
 pub(crate) fn hello(alloc: Global, name: &Bytes, mine: &History) -> Result<Bytes, NoMemory>
-    requires few { mine.now.length < 2 ^ 40 }
+    requires few { mine.now.length < NUMBERS_END }
     requires form { AllByRecursion IsReign (history_value mine.now).reigns }
     requires name { IsSiteName name.now }
     ensures { IfOk result (λ bytes. bytes ≡ spelled_frame (ship.greeting name.now (history_value mine.now))) }

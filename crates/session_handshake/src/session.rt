@@ -1,6 +1,7 @@
 // A primary is asked.
 ghost use Rattle.std.specs.Prelude.{◌≡◌, ◌↔◌, ◌<◌, ◌^◌, [], ◌∷◌, ℕ, IsTrue, IfOk, IfErr, OnOk, IsErrOf, count_by};
 ghost use Rattle.std.specs.List.{AllByRecursion};
+ghost use Rattle.global_defs.specs.declared.limits.TheConstants.{NUMBERS_END};
 ghost use Rattle.global_defs.specs.Fields.{IsReign, IsSiteName};
 ghost use Rattle.gvn_model.specs.Entries.{history_value};
 ghost use Rattle.wire_defs.specs.Links.{Linking, was_cut, past_since};
@@ -71,7 +72,7 @@ pub fn handshake<L: Linker>(
     links: &mut L,
     session: u32,
 ) -> Result<Handshake, SessionError>
-    requires few { mine.now.length < 2 ^ 40 }
+    requires few { mine.now.length < NUMBERS_END }
     requires form { AllByRecursion IsReign (history_value mine.now).reigns }
     requires name { IsSiteName name.now }
     // the session's connections alone were made, and given back

@@ -19,6 +19,7 @@ use Rattle.update_process.specs.Copies.{Copy, next_of}
 use Rattle.session_turns.specs.Following.{Followed, HasFit}
 use Rattle.session_turns.specs.Sessions.{HasMade, AreFirst}
 use Rattle.session_turns.proofs.Walk.{followed_told, entered_shipped}
+use Rattle.wire_defs.proofs.Resumed.{resume_form}
 
 -- bytes of the first entries are a front of the bytes of all
 first_bytes : (reigns : List Reign) (first : Bool) (n : ℕ) (es : List (List ℕ)) (ts : List Transaction) → AreFirst n es ts → IsPrefix (shipped_bytes reigns first n es) (shipped_bytes reigns first n (bytes_from n ts))
@@ -160,9 +161,6 @@ going_on h now (History r ∷ fs) goes on admitted = going_on admitted.0 now fs 
 going_on h now (Entry n t ∷ fs) goes on admitted =
     going_on admitted.0 now fs goes.1 (λ e. absurd (let is : ship.Shipped ≡ ship.Over = sym (entered_shipped h h.last) ∙ (sym (ap (λ (y : Heard). y.last) admitted.1.2) ∙ e) in cc)) admitted.2
 going_on h now (Bye n ∷ fs) goes on admitted = absurd goes.0
-
-resume_form : IsFrame (Resume 1)
-resume_form = record { fields = (omega arith, omega arith); short = omega arith }
 
 pub all_followed : (begun c : Copy) (put : List Arrival) (f : HasFit begun put) (s : Shipping) (part : Sequence) (size : ℕ) (sent received rest : List ℕ) (given : List (List ℕ))
     → HasMade (next_of begun) size s sent given → AreFirst (next_of begun) given (transactions part) → size ≡ length (begun.sequence ++ part) → HasStamps s.reigns (begun.sequence ++ part)

@@ -1,5 +1,5 @@
 -- What a turn has moved.
-use Rattle.std.proofs.Common.{◌≡◌, ◌≢◌, ◌⊎◌, inl, inr, ℕ, ◌+◌, ◌<◌, ◌≤◌, Bool, true, false, IsTrue, List, [], ◌∷◌, ◌++◌, length, Result, Ok, Err, IfOk, OnOk, is_err, refl, sym, ap, subst, ◌∙◌, arith, append-nil, length-append}
+use Rattle.std.proofs.Common.{◌≡◌, ◌≢◌, ◌⊎◌, inl, inr, ℕ, ◌+◌, ◌<◌, ◌≤◌, Bool, true, false, IsTrue, List, [], ◌∷◌, ◌++◌, length, Result, Ok, Err, IfOk, OnOk, refl, sym, ap, subst, ◌∙◌, arith, append-nil, length-append}
 use Rattle.wire_defs.specs.Frames.{Frame, BeginsFrame}
 use Rattle.wire_defs.specs.Links.{Sending, Receiving, SendingLooked, ReceivingLooked, KnowAll}
 use Rattle.recv_pool.specs.declared.pool.PoolIn.{PoolIn}
@@ -140,10 +140,6 @@ moved_or_sent a b now r s X same sent h = elim (hears_same a b now r s same h) [
 pub never_cut : (old now : Bool) → (IsTrue old → IsTrue now) → (IsTrue now → ⊥) → old ≡ false
 never_cut true now stays not = absurd (not (stays refl))
 never_cut false now stays not = refl
-
-pub ok_of : {E : Type 0} (r : Result (Unit {0}) E) (P : Type 0) → is_err r ≡ false → OnOk r P → P
-ok_of (Ok u) P is h = h
-ok_of (Err e) P is h = absurd (cc)
 
 pub sent_of : (X : Type 0) (now : Bool) → (IsTrue now → ⊥) → X ⊎ IsTrue now → X
 sent_of X now not (inl x) = x

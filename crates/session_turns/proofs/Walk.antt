@@ -6,7 +6,7 @@ use Rattle.std.specs.List.{AllByRecursion, last_or}
 use Rattle.std.proofs.lemmas.Bool.Decides.{nat_tests}
 use Rattle.global_defs.specs.Entry.{Stamp, Sequence, Reign}
 use Rattle.global_defs.specs.Prefix.{stamp_at}
-use Rattle.lineage_defs.specs.Histories.{begun_by}
+use Rattle.global_defs.specs.Rising.{begun_by}
 use Rattle.wire_defs.specs.Frames.{Frame, Hello, Resume, RollbackFirst, History, Entry, Bye, offset_after}
 use Rattle.ship_defs.specs.Directions.{Admitted}
 use Rattle.ship_defs.specs.Hearing as ship
@@ -18,6 +18,7 @@ use Rattle.receiver_server.specs.Hearings.{reign_behind}
 use Rattle.session_turns.specs.Following.{Followed, IsFitCopy, InTurn}
 use Rattle.ship_laws.proofs.Stamped.{stamped, or_or}
 use Rattle.receiver_server.proofs.Steps.{behind_none, either_shipped}
+use Rattle.global_defs.proofs.Basics.{or_none, last_or_push}
 
 last_stamp : (n : ℕ) (rs : List Reign) (o : Option Reign) → AllByRecursion (λ r. r.start ≤ n) rs → stamped (last_or o rs) ≡ option_or (stamp_at n rs) (stamped o)
 last_stamp n [] o all = refl
@@ -25,17 +26,9 @@ last_stamp n (r ∷ rs) o all =
     let is : nat_le r.start n ≡ true = grind (arith, nat_tests, all.0) in
     last_stamp n rs (Some r) all.1 ∙ (sym (or_or (stamp_at n rs) (stamped o) r.stamp) ∙ ap (λ (b : Bool). option_or (option_or (stamp_at n rs) (if b then Some r.stamp else None)) (stamped o)) (sym is))
 
-or_itself : (o : Option Stamp) → option_or o None ≡ o
-or_itself None = refl
-or_itself (Some s) = refl
-
 -- where all reigns have begun the last one's stamp is that of the number
 pub stamp_of_last : (n : ℕ) (rs : List Reign) → AllByRecursion (λ r. r.start ≤ n) rs → stamp_at n rs ≡ stamped (last_or None rs)
-stamp_of_last n rs all = sym (last_stamp n rs None all ∙ or_itself (stamp_at n rs))
-
-last_push : (o : Option Reign) (xs : List Reign) (y : Reign) → last_or o (xs ++ y ∷ []) ≡ Some y
-last_push o [] y = refl
-last_push o (x ∷ xs) y = last_push (Some x) xs y
+stamp_of_last n rs all = sym (last_stamp n rs None all ∙ or_none (stamp_at n rs))
 
 all_later : (n m : ℕ) (rs : List Reign) → n ≤ m → AllByRecursion (λ r. r.start ≤ n) rs → AllByRecursion (λ r. r.start ≤ m) rs
 all_later n m [] le all = tt
@@ -114,7 +107,7 @@ module _ (c now : Copy) (h : Heard) (under : Option Reign) (x : Arrival) (agrees
         let now_is : now ≡ hardened (took (told c x.reign) stamp x.transaction) = follows.1.2 ∙ ap hardened takes.2 in
         let becomes : entered h (ship.Reigning r) ≡ with_reign h r = ap (λ (b : Bool). if b then with_reign h r else with_entry h) begins_heard in
         let is_now = grown c h x (Some r) (c.reigns ++ r ∷ []) (with_reign h r) now agrees.count
-        (all_push (next_of c) c.reigns r (all_later (length c.sequence) (next_of c) c.reigns (omega arith) agrees.starts) (omega (arith, at))) (last_push None c.reigns r) stamp is
+        (all_push (next_of c) c.reigns r (all_later (length c.sequence) (next_of c) c.reigns (omega arith) agrees.starts) (omega (arith, at))) (last_or_push None c.reigns r) stamp is
         (ap (λ (d : Copy). d.sequence) now_is ∙ ap (λ (d : Copy). d.sequence ++ record { stamp = stamp; transaction = x.transaction } ∷ []) own)
         (ap (λ (d : Copy). d.reigns) now_is ∙ ap reigns_next own) (ap (λ (d : Copy). d.remembered) now_is) refl refl refl in
         (subst (λ (y : Heard). Agrees now y (Some r)) (sym becomes) is_now.0, is_now.1)

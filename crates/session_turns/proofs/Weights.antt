@@ -1,5 +1,6 @@
 -- How much is left of a connection: it falls with each turn behind which the connection goes on.
 use Rattle.std.proofs.Common.{◌≡◌, ◌⊎◌, inl, inr, ℕ, ◌+◌, ◌*◌, ◌-◌, ◌^◌, ◌<◌, ◌≤◌, ◌==◌, Bool, true, false, IsTrue, List, [], ◌∷◌, ◌++◌, length, refl, ap, ◌∙◌, arith, length-append, if◌then◌else◌}
+use Rattle.global_defs.specs.declared.limits.TheConstants.{NUMBERS_END}
 use Rattle.global_defs.specs.Entry.{Reign}
 use Rattle.wire_defs.specs.Frames.{Frame, Hello, Resume, RollbackFirst, History, Entry, Bye, IsFrame}
 use Rattle.wire_defs.specs.Links.{Sending, Receiving, KnowAll}
@@ -22,7 +23,7 @@ stage ship.Over = 0
 
 -- how many frames may still be heard, at most
 abbrev to_hear : Heard → ℕ
-to_hear h = 3 * (2 ^ 40 - h.count) + stage h.last
+to_hear h = 3 * (NUMBERS_END - h.count) + stage h.last
 
 at_first : (l : Last) → IsUnbegun l → stage l ≡ 4
 at_first ship.Unbegun u = refl
@@ -63,7 +64,7 @@ entered_more h ship.Over = refl
 -- another frame than an entry's
 other_less : (h now : Heard) (l : Last) → now ≡ record h { last = l } → stage l < stage h.last → to_hear now < to_hear h
 other_less h now l is less =
-    let same : to_hear now ≡ 3 * (2 ^ 40 - h.count) + stage l = ap to_hear is in
+    let same : to_hear now ≡ 3 * (NUMBERS_END - h.count) + stage l = ap to_hear is in
     omega (arith, same, less)
 
 heard_less : (p : Purpose) (h now : Heard) (f : Frame) → IsFrame f → Fits p h f now → to_hear now < to_hear h
@@ -75,7 +76,7 @@ heard_less p h now (Entry n t) form x =
     let count : now.count ≡ h.count + 1 = ap (λ (y : Heard). y.count) x.2 ∙ entered_more h h.last in
     let last : stage now.last ≡ 2 = ap (λ (y : Heard). stage y.last) x.2 ∙ ap stage (entered_shipped h h.last) in
     let under = at_under h.last x.0 in
-    let number : n < 2 ^ 40 = form.fields.0.1 in
+    let number : n < NUMBERS_END = form.fields.0.1 in
     let is : n ≡ h.count + 1 = x.1 in
     omega (arith, count, last, under, number, is)
 heard_less p h now (Bye n) form x = other_less h now ship.Over x.2 (let between = at_between h.last x.0 in omega (arith, between))

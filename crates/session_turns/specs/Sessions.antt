@@ -1,5 +1,6 @@
 -- What contracts see of a session's connection, from a primary's entries to a secondary's site.
 use Rattle.std.specs.Prelude.{◌≡◌, ℕ, ◌+◌, ◌<◌, ◌≤◌, ◌^◌, true, List, [], ◌∷◌}
+use Rattle.global_defs.specs.declared.limits.TheConstants.{NUMBERS_END}
 use Rattle.global_defs.specs.Entry.{Transaction}
 use Rattle.wire_defs.specs.Frames.{entry_bytes}
 use Rattle.source_server.specs.Sources.{Shipping, AllFrom, HasShipped}
@@ -24,6 +25,6 @@ AreFirst n (e ∷ es) (t ∷ ts) = (e ≡ entry_bytes n t) × AreFirst (n + 1) e
 
 -- so many entries may be taken, of which a source is ready to give each that is still to come
 pub record CanGive (Ready : ℕ → Type 0) (most : ℕ) (s : Shipping) : Type 0 where
-  pub few : most < 2 ^ 40
+  pub few : most < NUMBERS_END
   pub within : s.next ≤ most + 1
   pub ready : (n : ℕ) → s.next ≤ n → n ≤ most → Ready n

@@ -1,9 +1,10 @@
 // The machines of one connection, and a turn of them.
-ghost use Rattle.std.specs.Prelude.{◌≡◌, ◌≢◌, ◌⊎◌, ◌+◌, ◌<◌, ◌≤◌, ◌^◌, ℕ, List, [], ◌∷◌, ◌++◌, length, false, true, IsTrue, IsSome, IfOk, IfErr, OnOk, OnErr, IsErrOf, None};
+ghost use Rattle.std.specs.Prelude.{◌≡◌, ◌≢◌, ◌⊎◌, ◌+◌, ◌<◌, ◌≤◌, ℕ, List, [], ◌∷◌, ◌++◌, length, false, true, IsTrue, IsSome, IfOk, IfErr, OnOk, OnErr, IsErrOf, None};
 ghost use Rattle.std.specs.List.{AllByRecursion};
+ghost use Rattle.global_defs.specs.declared.limits.TheConstants.{NUMBERS_END};
 ghost use Rattle.global_defs.specs.Fields.{IsReign};
+ghost use Rattle.global_defs.specs.Rising.{StartsRise};
 ghost use Rattle.gvn_model.specs.Entries.{history_value};
-ghost use Rattle.lineage_defs.specs.Histories.{StartsRise};
 ghost use Rattle.wire_defs.specs.Links.{SameSending, SameReceiving, SendingLooked, ReceivingLooked, KnowAll, IsReached, counted};
 ghost use Rattle.recv_pool.specs.Pools.{put_in, taken, IsPool, SameIn};
 ghost use Rattle.rtrb.specs.Ring as ring;
@@ -241,7 +242,7 @@ impl<P: Drop> Machines<P> {
         into: PoolIn,
         out: PoolOut,
     ) -> Result<Machines<P>, NoMemory>
-        requires from { (1 ≤ from) × (from ≤ 2 ^ 40) }
+        requires from { (1 ≤ from) × (from ≤ NUMBERS_END) }
         requires form { AllByRecursion IsReign (history_value theirs.now).reigns }
         requires rising { StartsRise 0 (history_value theirs.now).reigns }
         ensures source { IfOk result (λ m. m.source ≡ resumed_at (history_value theirs.now).reigns from) }

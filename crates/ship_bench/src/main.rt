@@ -6,6 +6,7 @@
 #![tactic(auto)]
 
 use anyhow::{Context, Result};
+use global_defs::limits::NUMBERS_END;
 use gvn_key::Bytes;
 use repl_link::MemLinker;
 use ship_session::{SessionEnd, finish};
@@ -13,9 +14,6 @@ use ship_stands::{Primary, Site, StandError, apply_some, history};
 use std::alloc::Global;
 use std::env;
 use std::env::Env;
-
-// The number behind the last one that an entry may have.
-const NUMBERS_END: u64 = 1 << 40;
 
 // Ships so many entries in one session: how many came, where BYE came behind them.
 fn ship(alloc: Global, length: u64, value: u16) -> Result<u64, StandError> {

@@ -1,8 +1,10 @@
 -- What may come to a primary, and what it answers. (GT.M: the handshake of a Source Server with a Receiver Server, by the resync sequence number.)
 use Rattle.std.specs.Prelude.{◌≡◌, ℕ, ◌+◌, ◌<◌, ◌≤◌, Bool, true, false, IsTrue, List, length, take}
 use Rattle.std.specs.List.{AllByRecursion}
+use Rattle.global_defs.specs.declared.limits.TheConstants.{MOST_REIGNS}
 use Rattle.global_defs.specs.Prefix as prefix
-use Rattle.lineage_defs.specs.Histories.{MOST_REIGNS, StartsRise, IsCommonOf, told}
+use Rattle.global_defs.specs.Rising.{StartsRise}
+use Rattle.lineage_defs.specs.Histories.{IsCommonOf, told}
 use Rattle.wire_defs.specs.Frames.{Frame, Hello, Resume, RollbackFirst, History, Entry, Bye}
 use Rattle.ship_defs.specs.Directions as direction
 

@@ -3,10 +3,10 @@
 use Rattle.std.specs.Prelude.{◌≡◌, ◌⊎◌, ℕ, ◌+◌, ◌<◌, ◌≤◌, ◌==◌, Bool, List, [], ◌∷◌, fold, take, length, Option, Some, None, if◌then◌else◌}
 use Rattle.std.specs.List.{last_or}
 use Rattle.std.specs.FinMap as map
+use Rattle.global_defs.specs.declared.limits.TheConstants.{MOST_NODES, MOST_REIGNS}
 use Rattle.global_defs.specs.Entry.{Update, Transaction, Reign, Globals, apply}
-use Rattle.global_defs.specs.Evaluation.{MOST_NODES}
 use Rattle.global_defs.specs.Prefix as prefix
-use Rattle.lineage_defs.specs.Histories.{MOST_REIGNS, told}
+use Rattle.lineage_defs.specs.Histories.{told}
 use Rattle.wire_defs.specs.Frames.{Frame, Hello, Resume, RollbackFirst, History, Entry, Bye}
 use Rattle.ship_defs.specs.Directions as direction
 

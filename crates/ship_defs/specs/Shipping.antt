@@ -3,7 +3,7 @@ use Rattle.std.specs.Prelude.{ℕ, ◌+◌, ◌-◌, ◌==◌, ◌||◌, Bool, t
 use Rattle.std.specs.Int.{to_be_bytes, w32}
 use Rattle.std.specs.List.{last_or}
 use Rattle.global_defs.specs.Entry.{Transaction, Reign}
-use Rattle.lineage_defs.specs.Histories.{begun_by}
+use Rattle.global_defs.specs.Rising.{begun_by}
 use Rattle.wire_defs.specs.Frames.{Frame, Resume, History, Entry, Bye, entry_bytes, spelled_frame, stream}
 
 -- the reign of an entry's number: the last one that has begun by then

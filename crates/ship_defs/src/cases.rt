@@ -1,8 +1,8 @@
 // What the definitions come to on small connections.
 ghost use Rattle.std.specs.Prelude.{◌≡◌, ◌≤◌, ◌+◌, ℕ, true, false, [], ◌∷◌, ◌++◌, length, Option, Some, None};
 ghost use Rattle.std.specs.FinMap as map;
+ghost use Rattle.global_defs.specs.declared.limits.TheConstants.{MOST_REIGNS};
 ghost use Rattle.global_defs.specs.Entry.{Transaction, Reign, Globals};
-ghost use Rattle.lineage_defs.specs.Histories.{MOST_REIGNS};
 ghost use Rattle.lineage_defs.specs.Samples.{A, B, reign, stamp};
 ghost use Rattle.wire_defs.specs.Frames.{Frame, Hello, Resume, RollbackFirst, History, Entry, Bye, IsFrame, spelled_frame, stream};
 ghost use Rattle.ship_defs.specs.Hearing.{Purpose, Asks, Ships, Last, Resumed, Reigning, Heard, Hearing, unbegun, Fits, Admits, IsBadFromPrimary, EndsFromPrimary};

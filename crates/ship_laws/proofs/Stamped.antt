@@ -7,19 +7,22 @@ use Rattle.std.proofs.lemmas.Bool.Decides.{nat_tests}
 use Rattle.global_defs.specs.Entry.{Transaction, Stamp, Sequence, Reign}
 use Rattle.global_defs.specs.Entry as entries
 use Rattle.global_defs.specs.Prefix.{IsPrefix, stamp_at}
-use Rattle.lineage_defs.specs.Histories.{begun_by, HasStamps}
+use Rattle.global_defs.specs.Rising.{begun_by}
+use Rattle.lineage_defs.specs.Histories.{HasStamps}
 use Rattle.wire_defs.specs.Frames.{Frame, Resume, Entry, Bye, IsFrame, frame_type, stream, offset_after}
 use Rattle.ship_defs.specs.Shipping.{reign_at, announced, shipped, resumed, connection}
 use Rattle.ship_defs.specs.Arrivals.{Arrival, told_reign, arrived, arrivals, entries_of, HasEntries, BringsTo}
 use Rattle.ship_laws.proofs.Streams.{front, based}
+use Rattle.global_defs.proofs.Basics.{or_none}
+use Rattle.wire_defs.proofs.Resumed.{resume_form}
 
 pub or_or : (a b : Option Stamp) (s : Stamp) → option_or (option_or a (Some s)) b ≡ option_or a (Some s)
 or_or None b s = refl
 or_or (Some x) b s = refl
 
-or_none : (a b : Option Stamp) → option_or (option_or a None) b ≡ option_or a b
-or_none None b = refl
-or_none (Some x) b = refl
+none_between : (a b : Option Stamp) → option_or (option_or a None) b ≡ option_or a b
+none_between None b = refl
+none_between (Some x) b = refl
 
 abbrev pub stamped : Option Reign → Option Stamp
 stamped o = option_map (λ (r : Reign). r.stamp) o
@@ -30,7 +33,7 @@ last_stamp_of : (n : ℕ) (r : Reign) (rs : List Reign) (o : Option Reign) (b : 
     → stamped (last_or (Some r) (begun_by n rs)) ≡ option_or (stamp_at n rs) (stamped (Some r)) → stamped (last_or o (begun_by n rs)) ≡ option_or (stamp_at n rs) (stamped o)
     → stamped (last_or o (begun_by n (r ∷ rs))) ≡ option_or (stamp_at n (r ∷ rs)) (stamped o)
 last_stamp_of n r rs o true t with_it without = rw t (with_it ∙ sym (or_or (stamp_at n rs) (stamped o) r.stamp))
-last_stamp_of n r rs o false t with_it without = rw t (without ∙ sym (or_none (stamp_at n rs) (stamped o)))
+last_stamp_of n r rs o false t with_it without = rw t (without ∙ sym (none_between (stamp_at n rs) (stamped o)))
 
 last_stamp : (n : ℕ) (rs : List Reign) (o : Option Reign) → stamped (last_or o (begun_by n rs)) ≡ option_or (stamp_at n rs) (stamped o)
 last_stamp n [] o = refl
@@ -40,12 +43,8 @@ to_reign : (o : Option Reign) (s : Stamp) → stamped o ≡ Some s → (r : Reig
 to_reign None s is = absurd (cc)
 to_reign (Some r) s is = (r, refl, cc)
 
-or_itself : (o : Option Stamp) → option_or o None ≡ o
-or_itself None = refl
-or_itself (Some s) = refl
-
 pub reign_of : (n : ℕ) (rs : List Reign) (s : Stamp) → stamp_at n rs ≡ Some s → (r : Reign) × (reign_at n rs ≡ Some r) × (r.stamp ≡ s)
-reign_of n rs s is = to_reign (reign_at n rs) s (last_stamp n rs None ∙ (or_itself (stamp_at n rs) ∙ is))
+reign_of n rs s is = to_reign (reign_at n rs) s (last_stamp n rs None ∙ (or_none (stamp_at n rs) ∙ is))
 
 -- a reign that doesn't begin with a number was the last one before it
 
@@ -144,9 +143,6 @@ shipped_entries reigns (e ∷ es) k at first under stamps goes =
     ap (λ (o : Option Reign). carried_from at under (announced first (suc k) o ++ Entry (suc k) e.transaction ∷ rest)) found.1
     ∙ entry_step reigns e es (suc k) at first under r rest (first || r.start == suc k) refl found.2 goes_on later
 
-resume : IsFrame (Resume 1)
-resume = record { fields = (omega arith, omega arith); short = omega arith }
-
 no_entry : (at n : ℕ) (reign : Option Reign) (fs : List Frame) → arrivals at reign (fs ++ Bye n ∷ []) ≡ arrivals at reign fs
 no_entry at n reign [] = refl
 no_entry at n reign (f ∷ fs) = ap (λ (l : List Arrival). arrived at reign f ++ l) (no_entry (offset_after at (f ∷ [])) n (told_reign f) fs)
@@ -164,7 +160,7 @@ connection_entries reigns base part stamps each =
       frames = connection reigns (k + 1) (transactions part);
       rest = [];
       are = record { whole = sym (append-nil (stream (connection reigns (k + 1) (transactions part)))); each = each };
-      ends = inl (Resume 1, frame_type (Resume 1), _, resume, refl);
+      ends = inl (Resume 1, frame_type (Resume 1), _, resume_form, refl);
       is = sym (ap (entries_of None) (no_entry 0 (k + 1 + length (transactions part) - 1) None all)
           ∙ (ap (λ (n : ℕ). carried_from at None (shipped reigns true n (transactions part))) next
           ∙ shipped_entries reigns part k at true None own (λ no. absurd (cc no))));

@@ -4,9 +4,7 @@ use Rattle.std.specs.List.{AllByRecursion}
 use Rattle.wire_defs.specs.Frames.{Frame, Resume, IsFrame, BeginsFrame, BeginsNone, spelled_frame, stream, offset_after}
 use Rattle.repl_wire.proofs.Apart.{frame_one, split}
 use Rattle.ship_defs.specs.Directions.{Admitted, Lacks, refused, begins_none, behind_last, too_short, IsBadAt, EndsWith}
-
-resume : IsFrame (Resume 1)
-resume = record { fields = (omega arith, omega arith); short = omega arith }
+use Rattle.wire_defs.proofs.Resumed.{resume_form}
 
 -- a whole frame doesn't stand where one isn't whole yet
 whole_or_not : (f : Frame) (rest more : List ℕ) → IsFrame f → rest ≡ spelled_frame f ++ more → BeginsFrame rest → ⊥
@@ -79,7 +77,7 @@ module _ {S : Type 0} (Admits : S → Frame → S → Type 0) (one_way : (s : S)
 
     over_lacks : (s : S) (ended : Bool) → IsOver s → Lacks Admits IsOver s [] ended → ⊥
     over_lacks s ended over (refused r) = let e : [] ≡ spelled_frame r.frame ++ r.more = r.is in absurd (cc)
-    over_lacks s ended over (begins_none none) = none.none_goes_on (Resume 1) (spelled_frame (Resume 1)) resume refl
+    over_lacks s ended over (begins_none none) = none.none_goes_on (Resume 1) (spelled_frame (Resume 1)) resume_form refl
     over_lacks s ended over (behind_last last some) = some refl
     over_lacks s ended over (too_short done on begins) = on over
 

@@ -2,11 +2,13 @@
 use Rattle.std.proofs.Common.{◌≡◌, inl, inr, ℕ, suc, ◌+◌, ◌-◌, ◌<◌, ◌≤◌, ◌==◌, nat_le, Bool, true, false, List, [], ◌∷◌, ◌++◌, length, fold, Option, Some, None, refl, sym, ap, subst, ◌∙◌, arith, append_assoc, append-nil, length-append}
 use Rattle.std.specs.List.{AllByRecursion, last_or}
 use Rattle.std.proofs.lemmas.Bool.Decides.{nat_tests}
+use Rattle.global_defs.specs.declared.limits.TheConstants.{MOST_REIGNS}
 use Rattle.global_defs.specs.Entry.{Sequence, Reign, Globals, apply}
 use Rattle.global_defs.specs.Entry as entries
 use Rattle.global_defs.specs.Prefix as prefix
 use Rattle.global_defs.specs.Prefix.{IsPrefix, stamp_at}
-use Rattle.lineage_defs.specs.Histories.{MOST_REIGNS, begun_by, StartsRise, HasStamps}
+use Rattle.global_defs.specs.Rising.{StartsRise, begun_by}
+use Rattle.lineage_defs.specs.Histories.{HasStamps}
 use Rattle.wire_defs.specs.Frames.{Frame, Resume, History, Entry, Bye, IsFrame, stream}
 use Rattle.ship_defs.specs.Directions.{Admitted}
 use Rattle.ship_defs.specs.Hearing.{Ships, Last, Unbegun, Resumed, Reigning, Shipped, Over, Heard, Hearing, unbegun, IsBetween, MayReign, with_entry, with_reign, entered, HasRooms, Admits, IsHeardOut, IsBadFromPrimary, EndsFromPrimary}
@@ -14,6 +16,7 @@ use Rattle.ship_defs.specs.Shipping.{reign_at, announced, shipped, resumed, conn
 use Rattle.ship_laws.proofs.Walks.{bad_or_ended, stays_bad}
 use Rattle.ship_laws.proofs.Rules.{admits_one, admits_out}
 use Rattle.ship_laws.proofs.Stamped.{reign_of, get_behind, Stamps, stamps_first, stamps_later, transactions, three as cases_of}
+use Rattle.global_defs.proofs.Basics.{last_or_push}
 
 -- from one number to the next no reign begins, or one behind all others
 data Turn (rs : List Reign) (k : ℕ) : Type 0 where
@@ -57,10 +60,6 @@ few_of n r rs false is few = rw is (omega (arith, few))
 few_begun : (n : ℕ) (rs : List Reign) → length (begun_by n rs) ≤ length rs
 few_begun n [] = omega arith
 few_begun n (r ∷ rs) = few_of n r rs (nat_le r.start n) refl (few_begun n rs)
-
-last_push : (o : Option Reign) (xs : List Reign) (y : Reign) → last_or o (xs ++ y ∷ []) ≡ Some y
-last_push o [] y = refl
-last_push o (x ∷ xs) y = last_push (Some x) xs y
 
 -- the last one that has begun by a number began by then
 abbrev HasBegun : ℕ → Option Reign → Type 0
@@ -109,7 +108,7 @@ own_reign : (k : ℕ) (rs : List Reign) (r : Reign) → begun_by (suc k) rs ≡ 
 own_reign k rs r e last =
     let count : k + 1 ≡ suc k = omega arith in
     let more : length (begun_by k rs) + 1 ≡ length (begun_by (suc k) rs) = (let size = length-append (begun_by k rs) (r ∷ []) in omega (arith, size)) ∙ sym (ap length e) in
-    let its : Some r ≡ reign_at (suc k) rs = sym (last_push None (begun_by k rs) r) ∙ sym (ap (last_or None) e) in
+    let its : Some r ≡ reign_at (suc k) rs = sym (last_or_push None (begun_by k rs) r) ∙ sym (ap (last_or None) e) in
     (λ i. record { count = count i; reigns = more i; reign = its i; last = Shipped })
 
 module _ (rs : List Reign) (rise : StartsRise 0 rs) (few : length rs ≤ MOST_REIGNS) where
@@ -160,7 +159,7 @@ module _ (rs : List Reign) (rise : StartsRise 0 rs) (few : length rs ≤ MOST_RE
       let now : reign_at k rs ≡ Some r = sym (ap (last_or None) same) ∙ is in
       one_same first k r e last g behind now (reign_begun k rs r now) same room
   one first k r e last g behind is room (begins q at own) =
-      let its : Some q ≡ Some r = sym (last_push None (begun_by k rs) q) ∙ (sym (ap (last_or None) own) ∙ is) in
+      let its : Some q ≡ Some r = sym (last_or_push None (begun_by k rs) q) ∙ (sym (ap (last_or None) own) ∙ is) in
       let q_is : q ≡ r = cc in
       one_own first k r e last g behind (subst (λ (x : Reign). x.start ≡ suc k) q_is at) (subst (λ (x : Reign). begun_by (suc k) rs ≡ begun_by k rs ++ x ∷ []) q_is own) room
 

@@ -1,10 +1,12 @@
 // That what a primary ships is admissible.
 ghost use Rattle.std.specs.Prelude.{◌≡◌, ℕ, ◌+◌, ◌≤◌, false, List, ◌++◌, length, map};
 ghost use Rattle.std.specs.List.{AllByRecursion};
+ghost use Rattle.global_defs.specs.declared.limits.TheConstants.{MOST_REIGNS};
 ghost use Rattle.global_defs.specs.Entry.{Sequence, Reign, Globals};
 ghost use Rattle.global_defs.specs.Prefix as prefix;
 ghost use Rattle.global_defs.specs.Prefix.{IsPrefix};
-ghost use Rattle.lineage_defs.specs.Histories.{MOST_REIGNS, begun_by, StartsRise, HasStamps};
+ghost use Rattle.global_defs.specs.Rising.{StartsRise, begun_by};
+ghost use Rattle.lineage_defs.specs.Histories.{HasStamps};
 ghost use Rattle.wire_defs.specs.Frames.{IsFrame, stream};
 ghost use Rattle.ship_defs.specs.Directions.{Admitted};
 ghost use Rattle.ship_defs.specs.Hearing.{Ships, Hearing, unbegun, HasRooms, Admits, IsHeardOut, IsBadFromPrimary};

@@ -18,6 +18,7 @@ use Rattle.update_process.specs.Copies.{Copy, next_of}
 use Rattle.session_turns.specs.Sessions.{HasGiven, AreFirst}
 use Rattle.session_turns.proofs.Ordered.{made_bytes, all_followed}
 use Rattle.ship_session.specs.Ends.{IsEntryOf, Gives, HasGot, HasGrown, HasAppliedAll}
+use Rattle.wire_defs.proofs.Resumed.{resume_form}
 
 pub onward : {X : Type 0} (a b c : List X) → IsPrefix a b → IsPrefix b c → IsPrefix a c
 onward {X} a b c p q = (p.0 ++ q.0, q.1 ∙ (ap (λ (l : List X). l ++ q.0) p.1 ∙ append_assoc a p.0 q.0))
@@ -44,9 +45,6 @@ first_given Is all base (x ∷ part) n (e ∷ es) shown is at from =
     let one = subst (λ (l : Sequence). AreFirst n (e ∷ []) (transactions l)) (here all base (x ∷ part) n is at) (shown n e from.0).1 in
     let size = length-append base (x ∷ []) in
     (one.0, first_given Is all (base ++ x ∷ []) part (n + 1) es shown (is ∙ sym (append_assoc base (x ∷ []) part)) (omega (arith, size, at)) from.1)
-
-resume_form : IsFrame (Resume 1)
-resume_form = record { fields = (omega arith, omega arith); short = omega arith }
 
 module _ (Is : ℕ → List ℕ → Type 0) (theirs : prefix.History) (all : Sequence) (begun now : Copy) (s : Shipping) (sent received unread : List ℕ)
     (gives : Gives Is theirs all) (base : IsPrefix begun.sequence all) (reigns : s.reigns ≡ theirs.reigns) (given : HasGiven Is (next_of begun) theirs.length s sent) (carried : received ++ unread ≡ sent) where

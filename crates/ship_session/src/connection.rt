@@ -1,11 +1,13 @@
 // One connection of a session.
-ghost use Rattle.std.specs.Prelude.{◌≡◌, ◌+◌, ◌<◌, ◌≤◌, ◌^◌, ℕ, List, length, Some, IsTrue, IfOk, OnOk};
+ghost use Rattle.std.specs.Prelude.{◌≡◌, ◌+◌, ◌<◌, ◌≤◌, ℕ, List, length, Some, IsTrue, IfOk, OnOk};
 ghost use Rattle.std.specs.List.{AllByRecursion};
+ghost use Rattle.global_defs.specs.declared.limits.TheConstants.{NUMBERS_END};
 ghost use Rattle.global_defs.specs.Entry.{Sequence};
 ghost use Rattle.global_defs.specs.Fields.{IsReign, IsSiteName};
 ghost use Rattle.global_defs.specs.Prefix.{IsPrefix};
+ghost use Rattle.global_defs.specs.Rising.{StartsRise};
 ghost use Rattle.gvn_model.specs.Entries.{history_value};
-ghost use Rattle.lineage_defs.specs.Histories.{StartsRise, IsCommonOf};
+ghost use Rattle.lineage_defs.specs.Histories.{IsCommonOf};
 ghost use Rattle.wire_defs.specs.Frames.{RollbackFirst};
 ghost use Rattle.wire_defs.specs.Links.{Past};
 ghost use Rattle.ship_defs.specs.Greeting.{IsAnswer, carried};
@@ -38,7 +40,7 @@ pub(crate) fn connection<L: Linker, E: EntrySource, S: EntrySink>(
 ) -> Result<Option<SessionEnd<E::Error>>, TurnError<S::Error>>
 where
     E::Error: Drop,
-    requires few { theirs.now.length < 2 ^ 40 }
+    requires few { theirs.now.length < NUMBERS_END }
     requires form { AllByRecursion IsReign (history_value theirs.now).reigns }
     requires rising { StartsRise 0 (history_value theirs.now).reigns }
     requires name { IsSiteName name.now }

@@ -1,11 +1,12 @@
 // A primary ships behind its RESUME.
-ghost use Rattle.std.specs.Prelude.{◌≡◌, ◌+◌, ◌<◌, ◌≤◌, ◌^◌, ℕ, List, [], length, false, Some, None, IsTrue, IfOk, OnOk};
+ghost use Rattle.std.specs.Prelude.{◌≡◌, ◌+◌, ◌<◌, ◌≤◌, ℕ, List, [], length, false, Some, None, IsTrue, IfOk, OnOk};
 ghost use Rattle.std.specs.List.{AllByRecursion};
+ghost use Rattle.global_defs.specs.declared.limits.TheConstants.{NUMBERS_END};
 ghost use Rattle.global_defs.specs.Entry.{Sequence};
 ghost use Rattle.global_defs.specs.Fields.{IsReign};
 ghost use Rattle.global_defs.specs.Prefix.{IsPrefix};
+ghost use Rattle.global_defs.specs.Rising.{StartsRise};
 ghost use Rattle.gvn_model.specs.Entries.{history_value};
-ghost use Rattle.lineage_defs.specs.Histories.{StartsRise};
 ghost use Rattle.wire_defs.specs.Frames.{Frame, Resume, spelled_frame};
 ghost use Rattle.wire_defs.specs.Links.{Linking, ReceivingLooked};
 ghost use Rattle.recv_pool.specs.Pools.{put_in, IsPool};
@@ -41,7 +42,7 @@ pub(crate) fn machines<P: Drop>(
     from: u64,
     receiver: Receiver,
 ) -> Result<Machines<P>, NoMemory>
-    requires from { (1 ≤ from) × (from ≤ 2 ^ 40) }
+    requires from { (1 ≤ from) × (from ≤ NUMBERS_END) }
     requires form { AllByRecursion IsReign (history_value theirs.now).reigns }
     requires rising { StartsRise 0 (history_value theirs.now).reigns }
     ensures source { IfOk result (λ m. m.source ≡ resumed_at (history_value theirs.now).reigns from) }
@@ -81,7 +82,7 @@ pub(crate) fn ship<L: Linker, E: EntrySource, S: EntrySink>(
 ) -> Result<Option<SessionEnd<E::Error>>, TurnError<S::Error>>
 where
     E::Error: Drop,
-    requires few { theirs.now.length < 2 ^ 40 }
+    requires few { theirs.now.length < NUMBERS_END }
     requires form { AllByRecursion IsReign (history_value theirs.now).reigns }
     requires rising { StartsRise 0 (history_value theirs.now).reigns }
     requires going { IsTrue (S.going site.old) }

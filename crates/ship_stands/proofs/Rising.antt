@@ -4,10 +4,10 @@ use Rattle.std.specs.Prelude.{option_to_list}
 use Rattle.std.specs.List.{AllByRecursion}
 use Rattle.global_defs.specs.Fields.{IsReign}
 use Rattle.global_defs.specs.Entry.{Reign}
-use Rattle.lineage_defs.specs.Histories.{StartsRise}
 use Rattle.global_defs.proofs.Starts.{last_start}
+use Rattle.global_defs.specs.Rising.{StartsRise}
 
--- where the last of them begins, or this number
+-- a reign that begins past the last one may follow
 pub rise_push : (low : ℕ) (rs : List Reign) (r : Reign) → StartsRise low rs → last_start low rs < r.start → StartsRise low (rs ++ r ∷ [])
 rise_push low [] r rises later = (later, tt)
 rise_push low (q ∷ rs) r rises later = (rises.0, rise_push q.start rs r rises.1 later)

@@ -5,6 +5,7 @@ use Rattle.std.specs.FinMap as map
 use Rattle.std.specs.FinMap.Entries.{find-where_key}
 use Rattle.std.proofs.lemmas.List.Sums.{fold-append, length-filter, count_by-le-length}
 use Rattle.std.proofs.lemmas.Grind.{flat_map-append}
+use Rattle.global_defs.specs.declared.limits.TheConstants.{MOST_NODES}
 use Rattle.global_defs.specs.Key.{Key, key_cmp}
 use Rattle.global_defs.specs.Entry.{Update, Set, Kill, ZKill, Entry, Sequence, Globals, apply, is_under, state}
 use Rattle.global_defs.proofs.Order.{key_total, key_same}
@@ -51,7 +52,7 @@ pub made : (g : Globals) (us : List Update) → map.len (fold apply g us) ≤ ma
 made g [] = omega arith
 made g (u ∷ us) = let rest = made (apply g u) us in let first = one_more g u in omega (arith, rest, first)
 
-pub has_room : (g : Globals) (us : List Update) (n : ℕ) → map.len g ≤ n → n + length us ≤ 100000 → HasRoom g us
+pub has_room : (g : Globals) (us : List Update) (n : ℕ) → map.len g ≤ n → n + length us ≤ MOST_NODES → HasRoom g us
 has_room g us n few most k least = let now = made g (take k us) in omega (arith, now, length-take k us, few, most)
 
 -- the globals of one entry more

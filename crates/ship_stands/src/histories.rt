@@ -2,9 +2,9 @@
 ghost use Rattle.std.specs.Prelude.{◌≡◌, IfOk};
 ghost use Rattle.std.specs.List.{AllByRecursion};
 ghost use Rattle.global_defs.specs.Fields.{IsReign};
+ghost use Rattle.global_defs.specs.Rising.{StartsRise};
 ghost use Rattle.gvn_model.specs.Entries.{history_value};
 ghost use Rattle.gvn_model.specs.Reigns.{reign_value};
-ghost use Rattle.lineage_defs.specs.Histories.{StartsRise};
 
 use gvn_key::{Bytes, NoMemory};
 use gvn_model::{History, Reign, Reigns, Stamp};

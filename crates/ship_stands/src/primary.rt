@@ -1,5 +1,6 @@
 // A primary.
 ghost use Rattle.std.specs.Prelude.{◌≡◌, ◌<◌, ◌^◌, ◌++◌, length, IfOk, OnOk};
+ghost use Rattle.global_defs.specs.declared.limits.TheConstants.{NUMBERS_END};
 ghost use Rattle.ship_stands.specs.Alike.{entry_of};
 
 use super::histories::StandError;
@@ -69,7 +70,7 @@ impl Primary {
 
     // Adds the bytes of the entry of that number.
     fn write(&self, number: u64, out: &mut Bytes) -> Result<(), NoMemory>
-        requires { number < 2 ^ 40 }
+        requires { number < NUMBERS_END }
         ensures { OnOk result (out.new ≡ out.old ++ entry_of self.now.updates number) }
     {
         out.push_all(&number.to_be_bytes())?;

@@ -1,5 +1,7 @@
 // A secondary.
 ghost use Rattle.std.specs.Prelude.{◌≡◌, ◌+◌, ◌<◌, ◌≤◌, ◌^◌, ◌++◌, length, IsTrue, OnOk, OnErr, option_map, option_to_list, IfOk, map, Some, None, ◌==◌, if◌then◌else◌};
+ghost use Rattle.global_defs.specs.declared.limits.TheConstants.{NUMBERS_END};
+ghost use Rattle.ship_stands.specs.declared.site.TheConstants.{MOST_NODES};
 ghost use Rattle.std.specs.FinMap as globals;
 ghost use Rattle.std.specs.List.{AllByRecursion};
 ghost use Rattle.global_defs.specs.Entry as defs;
@@ -12,6 +14,7 @@ ghost use Rattle.gvn_model.specs.Entries.{history_value};
 
 use super::histories::StandError;
 use super::story::Story;
+use global_defs::limits::NUMBERS_END;
 use gvn_key::NoMemory;
 use gvn_model::{History, Reign, Reigns, Transaction};
 use update_process::{ApplyError, EntrySink};
@@ -28,10 +31,7 @@ pub enum Stopped {
 }
 
 // How many nodes there may be.
-const MOST_NODES: usize = 100_000;
-
-// The number behind the last one that an entry may have.
-const NUMBERS_END: u64 = 1 << 40;
+const MOST_NODES: usize = global_defs::limits::MOST_NODES as usize;
 
 /// A secondary that has entries, and counts what comes.
 #[derive(Drop)]
@@ -47,10 +47,10 @@ pub struct Site {
     applied: u64,
     sum: u64,
     story: Story,
-    ghost few: { history.length < 2 ^ 40 },
+    ghost few: { history.length < NUMBERS_END },
     ghost told: { length story.sequence ≡ history.length },
     ghost nodes: { globals.len (state story.sequence) ≤ updates },
-    ghost room: { updates ≤ 100000 },
+    ghost room: { updates ≤ MOST_NODES },
     ghost formed: { AllByRecursion IsReign (history.reigns ++ option_to_list (option_map reign_value remembered)) } by { formed_prop (history.reigns ++ option_to_list (option_map reign_value remembered)) },
     ghost begun: { 1 ≤ length story.sequence → IsTrue (has_stamp (length story.sequence + 1) history.reigns) },
 }

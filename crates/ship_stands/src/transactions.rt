@@ -6,6 +6,7 @@ ghost use Rattle.gvn_model.specs.Entries.{transaction_value};
 use super::histories::{StandError, history};
 use super::primary::push_update;
 use super::site::Site;
+use global_defs::limits::NUMBERS_END;
 use gvn_key::Bytes;
 use gvn_model::{Origin, Transaction, Updates};
 use repl_fields::read_update;
@@ -15,9 +16,6 @@ use update_process::EntrySink;
 
 // How many bytes an update has beside those of its value.
 const HEAD: usize = 10;
-
-// The number behind the last one that an entry may have.
-const NUMBERS_END: u64 = 1 << 40;
 
 // A transaction like that of a primary's entry of one update whose value has so many bytes.
 fn transaction(alloc: Global, value: u16) -> Result<Transaction, StandError>

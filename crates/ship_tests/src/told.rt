@@ -1,5 +1,6 @@
 // A session, and what is seen of it afterwards.
 ghost use Rattle.std.specs.Prelude.{◌≡◌, ◌<◌, ◌≤◌, ◌^◌};
+ghost use Rattle.global_defs.specs.declared.limits.TheConstants.{NUMBERS_END};
 ghost use Rattle.ship_stands.specs.Sites.{IsFitSite};
 
 use gvn_key::Bytes;
@@ -112,7 +113,7 @@ fn primary(rt: &impl Abort, alloc: Global, plan: Plan<'_>) -> Primary
 
 /// A session from a primary with three reigns, over links whose connections are cut after so many bytes.
 pub fn session(rt: &impl Abort, alloc: Global, plan: Plan<'_>, cuts: &[u64]) -> Told
-    requires { plan.ships.length < 2 ^ 40 }
+    requires { plan.ships.length < NUMBERS_END }
 {
     let theirs = history(alloc, plan.ships.length, &REIGNS).expect(rt, "a history");
     let mut primary = primary(rt, alloc, plan);
@@ -156,7 +157,7 @@ fn begun_by(number: u64) -> usize
 
 /// A session of a primary with three reigns, to a secondary that has the first so many of its entries.
 pub fn shipped(rt: &impl Abort, alloc: Global, ships: Ships, begun: u64, cuts: &[u64]) -> Told
-    requires { ships.length < 2 ^ 40 }
+    requires { ships.length < NUMBERS_END }
 {
     let plan = Plan {
         ships,

@@ -5,7 +5,7 @@ use Rattle.std.specs.Option.{unwrap_or}
 use Rattle.global_defs.specs.Entry.{Stamp, Reign}
 use Rattle.journal_defs.specs.Journal.{Start}
 use Rattle.journal_defs.specs.Instance as records
-use Rattle.journal_defs.specs.Instance.{NamedMode, InstanceRecord, pattern_record, generation, greatest_cycle, mode_of, site_name, regions}
+use Rattle.journal_defs.specs.Instance.{InstanceRecord, pattern_record, generation, greatest_cycle, mode_of, site_name, regions}
 use Rattle.journal_defs.specs.Broken.{BrokenPart, broken_text}
 use Rattle.site_defs.specs.Contents.{Contents, Leftover, Standing, bare}
 use Rattle.site_defs.specs.Limits.{region_number}

@@ -1,6 +1,7 @@
 -- What lies outside the files of a site, and where.
 use Rattle.std.specs.Prelude.{◌≡◌, ◌⊎◌, ℕ, suc, ◌<◌, ◌≤◌, List, [], length, Some}
 use Rattle.std.specs.List.{AllByRecursion}
+use Rattle.global_defs.specs.declared.limits.TheConstants.{MOST_REGIONS}
 use Rattle.disk_defs.specs.Disk.{Files}
 use Rattle.disk_defs.specs.Gates.{records}
 use Rattle.journal_defs.specs.Numbers.{INSTANCE, journal_file}
@@ -13,7 +14,7 @@ use Rattle.site_defs.specs.OutsideJournal.{IsOutsideGenerations}
 
 -- these records have one to eight regions, and each MAP is to one of them
 abbrev pub HaveDirectory : List InstanceRecord → Type 0
-HaveDirectory rs = (1 ≤ length (regions rs)) × (length (regions rs) ≤ 8) × AllByRecursion (λ (p : Pattern). p.region < length (regions rs)) (patterns rs)
+HaveDirectory rs = (1 ≤ length (regions rs)) × (length (regions rs) ≤ MOST_REGIONS) × AllByRecursion (λ (p : Pattern). p.region < length (regions rs)) (patterns rs)
 
 -- the first so many regions have these records over the generations up to g
 abbrev pub HaveJournals : ℕ → ℕ → (last : ℕ → ℕ) → (journal : ℕ → List Placed) → Files → Type 0

@@ -2,6 +2,7 @@
 use Rattle.std.specs.Prelude.{◌≡◌, ◌≢◌, ◌⊎◌, ℕ, ◌*◌, ◌<◌, List, [], ◌∷◌, ◌++◌, length, take, drop, min, Option, Some, IsTrue}
 use Rattle.std.specs.List.{AllByRecursion, flat_map}
 use Rattle.std.specs.FinMap as globals
+use Rattle.global_defs.specs.declared.limits.TheConstants.{BLOCK}
 use Rattle.disk_defs.specs.Disk.{Files}
 use Rattle.global_defs.specs.Entry.{Globals, Sequence}
 use Rattle.global_defs.specs.Valid.{is_key}
@@ -11,7 +12,7 @@ use Rattle.journal_defs.specs.Directory.{patterns}
 use Rattle.journal_defs.specs.Sequence.{Records, IsSequence}
 use Rattle.journal_defs.specs.Stands.{AreRecords}
 use Rattle.journal_defs.specs.Leaves.{Leaf, StandsAt, KeysRise}
-use Rattle.journal_defs.specs.Epochs.{Chosen, BLOCK, chosen, image_state, block_of, NeedsForward}
+use Rattle.journal_defs.specs.Epochs.{Chosen, chosen, image_state, block_of, NeedsForward}
 use Rattle.journal_defs.specs.Sound.{Restores, region_state}
 use Rattle.site_defs.specs.Outside.{IsOutsideSite, IsBegunAhead}
 

@@ -3,9 +3,9 @@ use Rattle.std.specs.Prelude.{◌≡◌, ◌⊎◌, ℕ, true, List, [], ◌∷�
 use Rattle.std.specs.List.{AllZip, list_all}
 use Rattle.disk_defs.specs.Gates.{Body, records, spelled}
 use Rattle.global_defs.specs.Entry.{Reign}
+use Rattle.global_defs.specs.Rising.{StartsRise}
 use Rattle.journal_defs.specs.Instance.{InstanceRecord, Reigned, IsInstanceBody, BeginsWithCreate, CutsRise}
 use Rattle.journal_defs.specs.Surviving.{spares_start, reigns}
-use Rattle.journal_defs.specs.Stands.{StartsRise}
 use Rattle.disk_defs.specs.OutsideGates.{IsOutside}
 
 -- CREATE is the first record and no other one is, and the generations of CUT records rise

@@ -1,6 +1,7 @@
 -- What files stand for.
 use Rattle.std.specs.Prelude.{◌≡◌, ◌≢◌, ◌⊎◌, ℕ, zero, suc, ◌<◌, true, List, [], ◌∷◌, ◌++◌, length, nat_lt, Option, Some, None, if◌then◌else◌}
 use Rattle.std.specs.List.{AllByRecursion, filter_map}
+use Rattle.global_defs.specs.declared.limits.TheConstants.{MOST_GENERATIONS}
 use Rattle.disk_defs.specs.Disk.{Files}
 use Rattle.disk_defs.specs.Gates as gates
 use Rattle.journal_defs.specs.Numbers.{INSTANCE, lost_file, broken_file}
@@ -10,7 +11,6 @@ use Rattle.journal_defs.specs.Directory.{Pattern, patterns}
 use Rattle.journal_defs.specs.Sequence.{Records}
 use Rattle.journal_defs.specs.Stands.{AreRecords}
 use Rattle.journal_defs.specs.Broken.{broken, broken_text}
-use Rattle.journal_defs.specs.Clean.{MOST_GENERATIONS}
 use Rattle.journal_defs.specs.Fit.{IsSoundImage}
 use Rattle.site_defs.specs.Contents.{Taken, Contents, Leftover, NO_LEFTOVER, nothing, is_made}
 

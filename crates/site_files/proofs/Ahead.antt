@@ -2,16 +2,19 @@
 use Rattle.std.proofs.Common.{◌≡◌, ℕ, suc, ◌+◌, ◌≤◌, ◌<◌, ◌^◌, List, [], ◌∷◌, ◌++◌, length, filter, Bool, inl, inr, Some, refl, sym, ◌∙◌, ap, subst, arith, length-append}
 use Rattle.std.proofs.lemmas.Bool.{cases_Bool}
 use Rattle.std.specs.List.{AllByRecursion}
+use Rattle.global_defs.specs.declared.limits.TheConstants.{MOST_GENERATIONS, MOST_REGIONS, NUMBERS_END}
 use Rattle.disk_defs.specs.Disk.{Files}
 use Rattle.disk_defs.specs.Frames.{Only, SameOutside}
 use Rattle.disk_defs.specs.Gates.{records}
 use Rattle.journal_defs.specs.Numbers.{INSTANCE, journal_file, lost_file}
 use Rattle.global_defs.specs.Entry.{Reign}
-use Rattle.journal_defs.specs.Instance.{InstanceRecord, Create, Reigned, Cut, Map, Mode, NamedMode, IsInForm, IsNoCreate, BeginsWithCreate, CutsRise, generation, regions}
+use Rattle.global_defs.specs.Rising.{StartsRise}
+use Rattle.global_defs.specs.Region.{Region}
+use Rattle.journal_defs.specs.Instance.{InstanceRecord, Create, Reigned, Cut, Map, Mode, IsInForm, IsNoCreate, BeginsWithCreate, CutsRise, generation, regions}
 use Rattle.journal_defs.specs.Surviving.{reigns}
 use Rattle.journal_defs.specs.Directory.{Pattern, patterns}
 use Rattle.journal_defs.specs.Sequence.{Placed}
-use Rattle.journal_defs.specs.Stands.{IsInstance, IsJournal, StartsRise}
+use Rattle.journal_defs.specs.Stands.{IsInstance, IsJournal}
 use Rattle.journal_laws.proofs.Drawing.{generation-cut, same_regions, journal_empty}
 use Rattle.journal_laws.proofs.EveryTarget.{patterns_same}
 use Rattle.journal_laws.proofs.ImageSteps.{all_both}
@@ -64,14 +67,14 @@ module _ (rs : List InstanceRecord) (n : ℕ) (last : ℕ → ℕ) (form : MayBe
   pub patterns_kept : patterns with_cut ≡ patterns rs
   patterns_kept = patterns_same rs (next_cut rs n) refl
 
-  pub still_opened : generation rs < 65534 → n < 2 ^ 40 → MayBeOpened with_cut last
+  pub still_opened : generation rs < 65534 → n < NUMBERS_END → MayBeOpened with_cut last
   still_opened low few = record {
     order = still_in_order rs n (generation rs + 1) form.some (omega arith) form.order;
     form = all_both IsInForm rs (next_cut rs n ∷ []) form.form ((few, omega arith, omega (arith, low)), tt);
     some = simp length-append (omega arith);
-    some_region = subst (λ (l : List NamedMode). 1 ≤ length l) (sym regions_kept) form.some_region;
-    few_regions = subst (λ (l : List NamedMode). length l ≤ 8) (sym regions_kept) form.few_regions;
-    mapped = subst (λ (l : List NamedMode). AllByRecursion (λ (p : Pattern). p.region < length l) (patterns with_cut)) (sym regions_kept)
+    some_region = subst (λ (l : List Region). 1 ≤ length l) (sym regions_kept) form.some_region;
+    few_regions = subst (λ (l : List Region). length l ≤ MOST_REGIONS) (sym regions_kept) form.few_regions;
+    mapped = subst (λ (l : List Region). AllByRecursion (λ (p : Pattern). p.region < length l) (patterns with_cut)) (sym regions_kept)
         (subst (λ (ps : List Pattern). AllByRecursion (λ (p : Pattern). p.region < length (regions rs)) ps) (sym patterns_kept) form.mapped);
     room = let e = newest in omega (arith, e, low);
     earlier = λ r. let e = newest in let le = form.earlier r in omega (arith, e, le);
@@ -92,7 +95,7 @@ module _ (rs : List InstanceRecord) (n : ℕ) (last : ℕ → ℕ) (form : MayBe
           let room = form.room in
           let before = journal_kept a b r (generation rs) (last r) (journal r) (λ h one high. journal_stays h r (omega (arith, high, room)) here (λ e. omega (arith, e, high))) (read.older r here) in
           subst (λ (g : ℕ). IsJournal b r g (last r) (journal r)) (sym newest) (journal_empty b r (generation rs) (last r) (journal r) (has.unbegun r here (omega arith)) before);
-      no_more = λ r high. read.no_more r (subst (λ (l : List NamedMode). length l ≤ r) regions_kept high);
+      no_more = λ r high. read.no_more r (subst (λ (l : List Region). length l ≤ r) regions_kept high);
       next = λ r low.
           let here = below r low in
           let room = form.room in
@@ -101,10 +104,10 @@ module _ (rs : List InstanceRecord) (n : ℕ) (last : ℕ → ℕ) (form : MayBe
     }
       where
         below : (r : ℕ) → r < length (regions with_cut) → r < length (regions rs)
-        below r low = subst (λ (l : List NamedMode). r < length l) regions_kept low
+        below r low = subst (λ (l : List Region). r < length l) regions_kept low
 
   -- and the lost-transaction file of a generation may change
-  pub lost_read : (a b : Files) (journal : ℕ → List Placed) (g : ℕ) → AreRead rs last journal a → g ≤ 65535 → SameOutside (Only (lost_file g)) a b → AreRead rs last journal b
+  pub lost_read : (a b : Files) (journal : ℕ → List Placed) (g : ℕ) → AreRead rs last journal a → g ≤ MOST_GENERATIONS → SameOutside (Only (lost_file g)) a b → AreRead rs last journal b
   lost_read a b journal g read most same = record {
     instance = subst (λ (l : List ℕ). IsInstance l rs) (sym (same INSTANCE (λ e. omega (arith, e)))) read.instance;
     older = λ r here. journal_kept a b r (generation rs) (last r) (journal r) (λ h one high. let few = form.few_regions in let room = form.room in same (journal_file h r) (λ e. omega (arith, e, high, here, few, room))) (read.older r here);

@@ -7,6 +7,7 @@ use Rattle.std.proofs.lemmas.Bool.Decides.{nat_tests}
 use Rattle.std.proofs.Math.Path.{fun_ext}
 use Rattle.std.proofs.Math.Seq.{take-length}
 use Rattle.std.specs.List.{AllZip}
+use Rattle.global_defs.specs.declared.limits.TheConstants.{MOST_GENERATIONS, MOST_REGIONS}
 use Rattle.disk_defs.specs.Disk.{Files}
 use Rattle.disk_defs.specs.Frames.{Only, SameOutside}
 use Rattle.disk_defs.specs.Gates.{Body, records}
@@ -65,7 +66,7 @@ pub no_bytes : (bytes : List ℕ) → length bytes ≤ 0 → bytes ≡ []
 no_bytes [] none = refl
 no_bytes (b ∷ bytes) none = absurd (omega (arith, none))
 
-cut_image : (old new : Files) (s : Records) (seq : Sequence) (t : ℕ) → IsSoundImage old s seq → t ≤ length seq → 1 ≤ length (regions s.instance) → generation s.instance < 65535 → SameOutside (Only INSTANCE) old new
+cut_image : (old new : Files) (s : Records) (seq : Sequence) (t : ℕ) → IsSoundImage old s seq → t ≤ length seq → 1 ≤ length (regions s.instance) → generation s.instance < MOST_GENERATIONS → SameOutside (Only INSTANCE) old new
     → IsInstance (new INSTANCE) (s.instance ++ next_cut s.instance t ∷ []) → IsSoundImage new (with_record s (next_cut s.instance t)) (take t seq)
 cut_image old new s seq t sound most few low same now =
     let was = sound.held.instance.bodies in
@@ -173,7 +174,7 @@ module _ (a : Files) (s : Records) (last : ℕ → ℕ) (form : MayBeOpened s.in
   abbrev m : ℕ
   m = length (regions s.instance)
 
-  low : g < 65535
+  low : g < MOST_GENERATIONS
   low = let room = form.room in omega (arith, room)
 
   -- the files that stay
@@ -185,12 +186,12 @@ module _ (a : Files) (s : Records) (last : ℕ → ℕ) (form : MayBeOpened s.in
       let few = form.few_regions in
       same (journal_file h r) (λ e. omega (arith, e)) (λ e. omega (arith, e, most, here, few, low)) (λ q there e. omega (arith, e, most, here, few))
 
-  at_later : (b : Files) → AreSame b → (h r : ℕ) → suc g < h → h ≤ 65535 → r < m → b (journal_file h r) ≡ a (journal_file h r)
+  at_later : (b : Files) → AreSame b → (h r : ℕ) → suc g < h → h ≤ MOST_GENERATIONS → r < m → b (journal_file h r) ≡ a (journal_file h r)
   at_later b same h r past most here =
       let few = form.few_regions in
       same (journal_file h r) (λ e. omega (arith, e)) (λ e. omega (arith, e, most, here, few, low)) (λ q there e. omega (arith, e, past, there, few))
 
-  at_lost : (b : Files) → AreSame b → (h : ℕ) → h ≤ 65535 → b (lost_file h) ≡ a (lost_file h)
+  at_lost : (b : Files) → AreSame b → (h : ℕ) → h ≤ MOST_GENERATIONS → b (lost_file h) ≡ a (lost_file h)
   at_lost b same h most =
       let few = form.few_regions in
       same (lost_file h) (λ e. omega (arith, e)) (λ e. omega (arith, e, most, low)) (λ q there e. omega (arith, e, there, few, low))
@@ -284,7 +285,7 @@ module _ (a : Files) (s : Records) (last : ℕ → ℕ) (form : MayBeOpened s.in
               let e : generation u.instance ≡ g + 1 = ap generation is ∙ newest in
               omega (arith, e, high)
 
-          at_j : (h r : ℕ) → suc g < h → h ≤ 65535 → r < length (regions S2.instance) → records (b (journal_file h r)) ≡ Some []
+          at_j : (h r : ℕ) → suc g < h → h ≤ MOST_GENERATIONS → r < length (regions S2.instance) → records (b (journal_file h r)) ≡ Some []
           at_j h r past_h most here =
               let there : r < m = (let e = same_few in omega (arith, e, here)) in
               ap records (at_later b same h r past_h most there) ∙ sound.clean.journals h r (omega (arith, past_h), most) there
@@ -346,7 +347,7 @@ module _ (a : Files) (s : Records) (last : ℕ → ℕ) (form : MayBeOpened s.in
           more was =
               let begun = has.begun k here (omega arith) in
               let mine : k < length (regions S2.instance) = (let e = same_few in omega (arith, e, here)) in
-              let eight : length (regions S2.instance) ≤ 8 = (let e = same_few in let few = form.few_regions in omega (arith, e, few)) in
+              let eight : length (regions S2.instance) ≤ MOST_REGIONS = (let e = same_few in let few = form.few_regions in omega (arith, e, few)) in
               let newest_is : generation S2.instance ≡ suc g = (let e = newest in omega (arith, e)) in
               let none : records (earlier (next_journal s.instance k)) ≡ Some [] = ap records earlier_here ∙ read.next k here in
               let held = appending.appended earlier b (drawn_records_as anew s t last k) k g (last k) (s.journal k) [] (next_pini_as anew s.instance last k ∷ []) [] begun.0 was.held newest_is mine eight

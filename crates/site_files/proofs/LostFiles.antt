@@ -1,6 +1,7 @@
 -- The lost-transaction files of generations that were drawn are no part of what the files stand for.
 use Rattle.std.proofs.Common.{◌≡◌, ℕ, ◌≤◌, List, [], ◌∷◌, length, ◌∙◌, ap, arith}
 use Rattle.std.specs.List.{AllZip}
+use Rattle.global_defs.specs.declared.limits.TheConstants.{MOST_GENERATIONS, MOST_REGIONS}
 use Rattle.disk_defs.specs.Disk.{Files}
 use Rattle.disk_defs.specs.Frames.{Only, SameOutside}
 use Rattle.disk_defs.specs.Gates.{Body, records}
@@ -13,7 +14,7 @@ use Rattle.journal_defs.specs.Fit.{IsSoundImage}
 use Rattle.journal_laws.proofs.ImageSteps as images
 
 -- what records in their form have
-newest_low : (bodies : List Body) (rs : List InstanceRecord) → AllZip IsInstanceBody bodies rs → generation rs ≤ 65535
+newest_low : (bodies : List Body) (rs : List InstanceRecord) → AllZip IsInstanceBody bodies rs → generation rs ≤ MOST_GENERATIONS
 newest_low [] [] zip = omega arith
 newest_low [] (x ∷ rs) zip = absurd zip
 newest_low (b ∷ bodies) [] zip = absurd zip
@@ -23,7 +24,7 @@ newest_low (b ∷ bodies) (Reigned r ∷ rs) zip = newest_low bodies rs zip.1
 newest_low (b ∷ bodies) (Map region star name ∷ rs) zip = newest_low bodies rs zip.1
 newest_low (b ∷ bodies) (Mode region before ∷ rs) zip = newest_low bodies rs zip.1
 
-few_regions : (bodies : List Body) (rs : List InstanceRecord) → AllZip IsInstanceBody bodies rs → length (regions rs) ≤ 8
+few_regions : (bodies : List Body) (rs : List InstanceRecord) → AllZip IsInstanceBody bodies rs → length (regions rs) ≤ MOST_REGIONS
 few_regions bodies [] zip = omega arith
 few_regions [] (x ∷ rs) zip = absurd zip
 few_regions (b ∷ bodies) (Create name regions ∷ rs) zip = zip.0.form.2
@@ -39,10 +40,10 @@ lost_changed a b s seq g sound drawn same = images.same_image a b s seq sound
     clean
     (λ r here. same (database_file r) (λ e. omega (arith, e, here, few)))
   where
-    newest : generation s.instance ≤ 65535
+    newest : generation s.instance ≤ MOST_GENERATIONS
     newest = newest_low sound.held.instance.bodies.0 s.instance sound.held.instance.bodies.2
 
-    few : length (regions s.instance) ≤ 8
+    few : length (regions s.instance) ≤ MOST_REGIONS
     few = few_regions sound.held.instance.bodies.0 s.instance sound.held.instance.bodies.2
 
     clean : AreClean b s (length seq)

@@ -7,12 +7,14 @@ use Rattle.std.proofs.lemmas.List.{length-map, get_or_past, get_or_append_left, 
 use Rattle.std.proofs.lemmas.List.Elements.{filter-append}
 use Rattle.std.specs.List.{AllZip, AllByRecursion, flat_map, enumerate_from, cons_option}
 use Rattle.std.specs.Prelude.{◌&&◌, nat_lt}
+use Rattle.global_defs.specs.declared.limits.TheConstants.{MOST_GENERATIONS}
+use Rattle.global_defs.specs.Region.{Region}
 use Rattle.disk_defs.specs.Disk.{Files}
 use Rattle.disk_defs.proofs.Told.{told_at, weaker_told, both_weak}
 use Rattle.journal_defs.specs.Numbers.{journal_file}
 use Rattle.journal_defs.specs.Journal as journal
 use Rattle.journal_defs.specs.Journal.{JournalRecord, Part}
-use Rattle.journal_defs.specs.Instance.{InstanceRecord, NamedMode, regions}
+use Rattle.journal_defs.specs.Instance.{InstanceRecord, regions}
 use Rattle.journal_defs.specs.Broken.{BrokenPart, part_past, parts_past, broken}
 use Rattle.journal_defs.specs.Sequence.{Placed}
 use Rattle.journal_defs.specs.Surviving.{survives}
@@ -55,7 +57,7 @@ only_past rs n (p ∷ ps) = elim (cases_Bool (is_past n p.what)) [
 -- the broken list of the parts past the length is that of all records
 pub broken_past : (rs : List InstanceRecord) (n : ℕ) (journal past : ℕ → List Placed) → ((r : ℕ) → past r ≡ all_past n (journal r)) → broken (record { instance = rs; journal = past }) n ≡ broken (record { instance = rs; journal = journal }) n
 broken_past rs n journal past are =
-    ap (λ (f : ℕ × NamedMode → List BrokenPart). flat_map f (enumerate_from 0 (regions rs)))
+    ap (λ (f : ℕ × Region → List BrokenPart). flat_map f (enumerate_from 0 (regions rs)))
     (fun_ext (λ r. ap (λ (ps : List Part). map (λ (p : Part). let made : BrokenPart = record { region = r.1.name; part = p } in made) ps) (ap (parts_past rs n) (are r.0) ∙ only_past rs n (journal r.0))))
 
 -- what is dropped of records is no surviving part past the length
@@ -91,18 +93,18 @@ past_kept rs lowest n behind (p ∷ ps) kept (inr (inr goes)) =
 -- so what is kept of them is enough for the broken list
 pub broken_kept : (rs : List InstanceRecord) (lowest n : ℕ) (journal kept : ℕ → List Placed) → ((r : ℕ) → IsThinned rs lowest n None (journal r) (kept r)) → broken (record { instance = rs; journal = kept }) n ≡ broken (record { instance = rs; journal = journal }) n
 broken_kept rs lowest n journal kept thin =
-    ap (λ (f : ℕ × NamedMode → List BrokenPart). flat_map f (enumerate_from 0 (regions rs)))
+    ap (λ (f : ℕ × Region → List BrokenPart). flat_map f (enumerate_from 0 (regions rs)))
     (fun_ext (λ r. ap (λ (ps : List Part). map (λ (p : Part). let made : BrokenPart = record { region = r.1.name; part = p } in made) ps) (past_kept rs lowest n None (journal r.0) (kept r.0) (thin r.0))))
 
 -- the record whose sign stands at a place
 pub record IsAt (files : Files) (region : ℕ) (s : PlacedSign) (journal : List Placed) (i : ℕ) : Type 0 where
   pub placed : Placed
   pub is : IsSignOf files region s placed
-  pub most : placed.generation ≤ 65535
+  pub most : placed.generation ≤ MOST_GENERATIONS
   pub more : take (i + 1) journal ≡ take i journal ++ placed ∷ []
 
-at_place : (files : Files) (region : ℕ) (ss : List PlacedSign) (ps : List Placed) (i : ℕ) (s d : PlacedSign) → AllZip (IsSignOf files region) ss ps → AllByRecursion (λ p. (1 ≤ p.generation) × (p.generation ≤ 65535)) ps
-    → i < length ss → s ≡ get_or ss i d → (p : Placed) × IsSignOf files region s p × (p.generation ≤ 65535) × (take (suc i) ps ≡ take i ps ++ p ∷ [])
+at_place : (files : Files) (region : ℕ) (ss : List PlacedSign) (ps : List Placed) (i : ℕ) (s d : PlacedSign) → AllZip (IsSignOf files region) ss ps → AllByRecursion (λ p. (1 ≤ p.generation) × (p.generation ≤ MOST_GENERATIONS)) ps
+    → i < length ss → s ≡ get_or ss i d → (p : Placed) × IsSignOf files region s p × (p.generation ≤ MOST_GENERATIONS) × (take (suc i) ps ≡ take i ps ++ p ∷ [])
 at_place files region [] ps i s d zip all low is = absurd (omega (arith, low))
 at_place files region (x ∷ ss) [] i s d zip all low is = absurd zip
 at_place files region (x ∷ ss) (p ∷ ps) zero s d zip all low is = (p, subst (λ (y : PlacedSign). IsSignOf files region y p) (sym is) zip.0, all.0.1, refl)
@@ -176,9 +178,9 @@ told_past o n region len ss i d old new same low before here =
     added at.placed at.is ∙ ap (λ (l : List Placed). l ++ all_past len (at.placed ∷ [])) (was journal are) ∙ past_more len files region (get_or ss i d) journal i at)
 
 pub told_missing : (o n : Option Files) (region : ℕ) (ss : List PlacedSign) (i : ℕ) (d : PlacedSign) → n ≡ o → i < length ss
-    → IfSome n (λ files. (p : Placed) → IsSignOf files region (get_or ss i d) p → p.generation ≤ 65535 → ⊥) → IfSome o (λ files. (journal : List Placed) → AreRegionSigns files region ss journal → ⊥)
+    → IfSome n (λ files. (p : Placed) → IsSignOf files region (get_or ss i d) p → p.generation ≤ MOST_GENERATIONS → ⊥) → IfSome o (λ files. (journal : List Placed) → AreRegionSigns files region ss journal → ⊥)
 told_missing o n region ss i d same low none =
-    let None_there = λ (files : Files). (p : Placed) → IsSignOf files region (get_or ss i d) p → p.generation ≤ 65535 → ⊥ in
+    let None_there = λ (files : Files). (p : Placed) → IsSignOf files region (get_or ss i d) p → p.generation ≤ MOST_GENERATIONS → ⊥ in
     weaker_told o None_there (λ files. (journal : List Placed) → AreRegionSigns files region ss journal → ⊥) (told_at o n None_there same none)
     (λ files no journal are. let at = is_at files region ss journal i (get_or ss i d) d are low refl in no at.placed at.is at.most)
 

@@ -2,6 +2,7 @@
 use Rattle.std.proofs.Common.{◌≡◌, inl, inr, ℕ, ◌≤◌, ◌<◌, List, [], ◌∷◌, length, Option, None, IfSome, sym, ◌∙◌, ap, subst, arith}
 use Rattle.std.specs.List.{AllByRecursion}
 use Rattle.std.proofs.lemmas.Bool.{cases_lt}
+use Rattle.global_defs.specs.declared.limits.TheConstants.{MOST_GENERATIONS}
 use Rattle.disk_defs.specs.Disk.{Files}
 use Rattle.disk_defs.proofs.Told.{weaker_told, both_weak}
 use Rattle.global_defs.specs.Entry.{Sequence}
@@ -18,7 +19,7 @@ use Rattle.site_defs.specs.Outside.{HaveJournals}
 use Rattle.site_files.proofs.WhatIsRead.{instance_one}
 use Rattle.site_files.proofs.Counts.{are_found}
 
-pub generation_low : (rs : List InstanceRecord) → AllByRecursion IsInForm rs → generation rs ≤ 65535
+pub generation_low : (rs : List InstanceRecord) → AllByRecursion IsInForm rs → generation rs ≤ MOST_GENERATIONS
 generation_low [] form = omega arith
 generation_low (Cut n g ∷ rs) form = let high = form.0.2 in let rest = generation_low rs form.1 in omega (arith, high, rest)
 generation_low (Create name named ∷ rs) form = generation_low rs form.1

@@ -4,6 +4,7 @@ use Rattle.std.proofs.lemmas.Bool.{cases_eq}
 use Rattle.std.proofs.lemmas.Bool.Decides.{nat_tests}
 use Rattle.std.proofs.lemmas.List.{map-append, length-map, length-append, get_or_append_left, get_or_push}
 use Rattle.std.specs.List.{AllByRecursion}
+use Rattle.global_defs.specs.declared.limits.TheConstants.{MOST_GENERATIONS}
 use Rattle.disk_defs.specs.Disk.{Files, View, Image, IsLawful, IsDurable, AtEachMoment}
 use Rattle.disk_defs.specs.Gates.{records}
 use Rattle.disk_defs.proofs.Moments.{holds_now}
@@ -62,13 +63,13 @@ have_more files n m g lasts journal last new more many before here =
 
 -- the generations of records are those of the files in which they stand
 abbrev IsInRange : Placed → Type 0
-IsInRange p = (1 ≤ p.generation) × (p.generation ≤ 65535)
+IsInRange p = (1 ≤ p.generation) × (p.generation ≤ MOST_GENERATIONS)
 
-newer_range : (g : ℕ) (xs : List JournalRecord) → 1 ≤ g → g ≤ 65535 → AllByRecursion IsInRange (map (in_generation g) xs)
+newer_range : (g : ℕ) (xs : List JournalRecord) → 1 ≤ g → g ≤ MOST_GENERATIONS → AllByRecursion IsInRange (map (in_generation g) xs)
 newer_range g [] least most = tt
 newer_range g (x ∷ xs) least most = ((least, most), newer_range g xs least most)
 
-pub in_range : (files : Files) (r g last : ℕ) (journal : List Placed) → g ≤ 65535 → IsJournal files r g last journal → AllByRecursion IsInRange journal
+pub in_range : (files : Files) (r g last : ℕ) (journal : List Placed) → g ≤ MOST_GENERATIONS → IsJournal files r g last journal → AllByRecursion IsInRange journal
 in_range files r zero last journal most h = subst (AllByRecursion IsInRange) (sym h.1) tt
 in_range files r (suc g) last journal most h =
     subst (AllByRecursion IsInRange) (sym h.7)
@@ -142,7 +143,7 @@ pub none_began : (lasts : List ℕ) (g r : ℕ) → lasts ≡ [] → last_of las
 none_began lasts g r none = subst (λ (l : List ℕ). last_of l r ≤ g) (sym none) (omega arith)
 
 -- the same of lists in vectors, as the disk tells it
-pub told_more : {J : Type 0} (items : J → List PlacedSign) (o n : Option Files) (region next g : ℕ) (lasts lasts2 : List ℕ) (js js2 : List J) (last : ℕ) (j : J) → g ≤ 65535 → next ≡ region + 1 → n ≡ o
+pub told_more : {J : Type 0} (items : J → List PlacedSign) (o n : Option Files) (region next g : ℕ) (lasts lasts2 : List ℕ) (js js2 : List J) (last : ℕ) (j : J) → g ≤ MOST_GENERATIONS → next ≡ region + 1 → n ≡ o
     → length lasts ≡ region → length js ≡ region → lasts2 ≡ lasts ++ last ∷ [] → js2 ≡ js ++ j ∷ []
     → IfSome o (HaveSigns region g (last_of lasts) (map items js)) → IfSome n (λ files. (journal : List Placed) × IsJournal files region g last journal × AreSignsOf files region (items j) journal × AreInOrder (items j) journal)
     → IfSome o (HaveSigns next g (last_of lasts2) (map items js2))

@@ -2,6 +2,7 @@
 -- region.
 use Rattle.std.specs.Prelude.{◌≡◌, ◌≢◌, ◌⊎◌, ℕ, suc, ◌+◌, ◌≤◌, ◌<◌, ◌++◌, Bool, false, List, [], ◌∷◌, length, get_or, nat_lt, ◌&&◌, if◌then◌else◌, max, Option, Some, None}
 use Rattle.std.specs.List.{AllByRecursion}
+use Rattle.global_defs.specs.declared.limits.TheConstants.{MOST_GENERATIONS, MOST_REGIONS}
 use Rattle.disk_defs.specs.Disk.{Files, View, IsDurable}
 use Rattle.disk_defs.specs.Gates.{records}
 use Rattle.journal_defs.specs.Numbers.{INSTANCE, journal_file, broken_file}
@@ -25,7 +26,7 @@ last_of lasts r = get_or lasts r 0
 -- the directory of these records, or that there is none
 abbrev pub IsDirectory : List InstanceRecord → Option Mapping → Type 0
 IsDirectory rs None = HaveDirectory rs → ⊥
-IsDirectory rs (Some d) = (1 ≤ length (regions rs)) × (length (regions rs) ≤ 8) × (d ≡ record { regions = length (regions rs); patterns = patterns rs })
+IsDirectory rs (Some d) = (1 ≤ length (regions rs)) × (length (regions rs) ≤ MOST_REGIONS) × (d ≡ record { regions = length (regions rs); patterns = patterns rs })
 
 -- The records of an instance file by which a site may be opened: they are a site's, each MAP names a region of it, and a generation is
 -- left. `last` has for each region the last generation that began.
@@ -34,9 +35,9 @@ pub record MayBeOpened (rs : List InstanceRecord) (last : ℕ → ℕ) : Type 0 
   pub form : AllByRecursion IsInForm rs
   pub some : 0 < length rs
   pub some_region : 1 ≤ length (regions rs)
-  pub few_regions : length (regions rs) ≤ 8
+  pub few_regions : length (regions rs) ≤ MOST_REGIONS
   pub mapped : AllByRecursion (λ (p : Pattern). p.region < length (regions rs)) (patterns rs)
-  pub room : generation rs < 65535
+  pub room : generation rs < MOST_GENERATIONS
   pub earlier : (r : ℕ) → last r ≤ generation rs
 
 -- What the files hold: these records, and no open record in the next journals.

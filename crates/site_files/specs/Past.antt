@@ -1,6 +1,7 @@
 -- Parts past the length of a site, by the signs of a region's records.
 use Rattle.std.specs.Prelude.{ℕ, ◌≤◌, nat_lt, filter, Bool, false, List}
 use Rattle.std.specs.List.{AllByRecursion}
+use Rattle.global_defs.specs.declared.limits.TheConstants.{MOST_GENERATIONS}
 use Rattle.disk_defs.specs.Disk.{Files}
 use Rattle.journal_defs.specs.Journal as journal
 use Rattle.journal_defs.specs.Journal.{JournalRecord}
@@ -31,4 +32,4 @@ all_past n journal = filter (λ p. is_past n p.what) journal
 -- These are the signs of a region's records, whose generations are from 1 to 65,535.
 pub record AreRegionSigns (files : Files) (region : ℕ) (signs : List PlacedSign) (journal : List Placed) : Type 0 where
   pub are : AreSignsOf files region signs journal
-  pub generations : AllByRecursion (λ p. (1 ≤ p.generation) × (p.generation ≤ 65535)) journal
+  pub generations : AllByRecursion (λ p. (1 ≤ p.generation) × (p.generation ≤ MOST_GENERATIONS)) journal

@@ -1,6 +1,7 @@
 -- The regions of a site, as they are read one after another.
 use Rattle.std.specs.Prelude.{ℕ, ◌<◌, ◌≤◌, List, length}
 use Rattle.std.specs.List.{AllByRecursion}
+use Rattle.global_defs.specs.declared.limits.TheConstants.{MOST_REGIONS}
 use Rattle.disk_defs.specs.Disk.{Files, View, IsDurable}
 use Rattle.journal_defs.specs.Numbers.{journal_file}
 use Rattle.journal_defs.specs.Directory.{Pattern, patterns}
@@ -30,5 +31,5 @@ AreUnbegunDurable v regions g files = (r : ℕ) → r < regions → IsDurable v 
 
 -- the files hold no records of one to eight regions with each MAP to one of them
 abbrev pub HoldNoSite : Files → Type 0
-HoldNoSite files = (s : Records) → AreRecords files s → 1 ≤ length (regions s.instance) → length (regions s.instance) ≤ 8
+HoldNoSite files = (s : Records) → AreRecords files s → 1 ≤ length (regions s.instance) → length (regions s.instance) ≤ MOST_REGIONS
     → AllByRecursion (λ (p : Pattern). p.region < length (regions s.instance)) (patterns s.instance) → ⊥

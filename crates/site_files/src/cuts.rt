@@ -1,5 +1,6 @@
 //! Cutting the sequence off, so that the next generation is drawn and hasn't begun.
 ghost use Rattle.std.specs.Prelude.{◌≡◌, ◌⊎◌, ◌≤◌, ◌<◌, ◌^◌, ◌++◌, ◌∷◌, [], ℕ, suc, List, length, IfSome, IfOk, OnOk, OnErr, IsErrOf};
+ghost use Rattle.global_defs.specs.declared.limits.TheConstants.{NUMBERS_END};
 ghost use Rattle.disk_defs.specs.Disk.{Files, Image, From, AtEachMoment, IsDurable, MayFail};
 ghost use Rattle.disk_defs.specs.Frames.{Only, OnlyOn, OthersStay};
 ghost use Rattle.instance_file.specs.Instance as instances;
@@ -10,7 +11,7 @@ ghost use Rattle.journal_defs.specs.Stands.{IsInstance};
 ghost use Rattle.site_files.specs.Loading.{MayBeOpened, WasRead, MayCutOff, HasCut, AreCut, AreUnbegun, next_cut, next_broken};
 
 use crate::error::FilesError;
-use crate::finding::{generation_in, in_instance};
+use crate::finding::in_instance;
 use crate::texts::write_broken;
 use instance_file::{Instance, InstanceLog};
 use repl_disk::Disk;
@@ -26,7 +27,7 @@ fn cut<D: Disk>(
 ) -> Result<Instance, FilesError>
     requires form { (last : ℕ → ℕ) × MayBeOpened log.records last }
     requires next { next ≡ suc (generation log.records) }
-    requires length { length < 2 ^ 40 }
+    requires length { length < NUMBERS_END }
     requires stands { IfSome (D.disk disk.old).content (λ files. IsInstance (files INSTANCE) log.records) }
     requires durable { IfSome (D.disk disk.old).content (λ files. IsDurable (D.disk disk.old) INSTANCE (files INSTANCE)) }
     ensures ready { IfOk result (λ made. instances.IsReady (D.disk disk.new) made) }
@@ -60,7 +61,7 @@ pub fn cut_off<D: Disk>(
     broken: &[u8],
 ) -> Result<Instance, FilesError>
     requires form { (last : ℕ → ℕ) × MayBeOpened log.records last }
-    requires count { count < 2 ^ 40 }
+    requires count { count < NUMBERS_END }
     requires read { IfSome (D.disk disk.old).content (λ files. (last : ℕ → ℕ) × (journal : ℕ → List Placed) × WasRead (D.disk disk.old) log.records last journal files) }
     ensures ready { IfOk result (λ made. instances.IsReady (D.disk disk.new) made) }
     ensures records { IfOk result (λ made. made.records ≡ log.records ++ next_cut log.records count ∷ []) }
@@ -74,7 +75,7 @@ pub fn cut_off<D: Disk>(
     ensures outside { (file offset : ℕ) → IsErrOf result (FilesError.NotAFile file offset) → IfSome (D.disk disk.old).content (λ _. ⊥) }
     ensures causes { OnErr result (((fault : ℕ) × IsErrOf result (FilesError.Failed fault)) ⊎ ((file : ℕ) × (offset : ℕ) × IsErrOf result (FilesError.NotAFile file offset)) ⊎ IsErrOf result FilesError.NoMemory) }
 {
-    let next = generation_in(log.records.as_slice()) + 1;
+    let next = log.records.generation() + 1;
     write_broken(disk, next, broken)?;
     cut(alloc, disk, log, count, next)
 }
@@ -87,7 +88,7 @@ pub fn cut_open<D: Disk>(
 ) -> Result<Instance, FilesError>
     requires ready { instances.IsReady (D.disk disk.old) instance }
     requires form { (last : ℕ → ℕ) × MayBeOpened instance.records last }
-    requires count { count < 2 ^ 40 }
+    requires count { count < NUMBERS_END }
     requires unbegun { IfSome (D.disk disk.old).content (λ _. (f : Files) → Image (D.disk disk.old) f → AreUnbegun (suc (generation instance.records)) (length (regions instance.records)) f) }
     ensures ready { IfOk result (λ made. instances.IsReady (D.disk disk.new) made) }
     ensures records { IfOk result (λ made. made.records ≡ instance.records ++ next_cut instance.records count ∷ []) }
@@ -100,7 +101,7 @@ pub fn cut_open<D: Disk>(
     ensures faults { MayFail (D.disk disk.old).faults (D.disk disk.new).faults (λ fault. IsErrOf result (FilesError.Failed fault)) }
     ensures causes { OnErr result (((fault : ℕ) × IsErrOf result (FilesError.Failed fault)) ⊎ IsErrOf result FilesError.NoMemory) }
 {
-    let next = generation_in(instance.records.as_slice()) + 1;
+    let next = instance.records.generation() + 1;
     match instance.cut(disk, count, next) {
         Ok(()) => Ok(instance),
         Err(error) => Err(in_instance(error, disk.faults())),

@@ -1,13 +1,12 @@
 //! Drawing the next generation, and beginning it.
-ghost use Rattle.std.specs.Prelude.{◌≡◌, ◌⊎◌, ◌≤◌, ◌<◌, ◌^◌, ◌++◌, ◌∷◌, [], ℕ, suc, true, false, List, length, map, slice_get, Some, IfSome, IfOk, OnOk, OnErr, IsErrOf};
-ghost use Rattle.std.specs.Option.{option_or, unwrap_or};
+ghost use Rattle.std.specs.Prelude.{◌≡◌, ◌⊎◌, ◌≤◌, ◌<◌, ◌^◌, ◌++◌, ◌∷◌, [], ℕ, suc, false, List, length, slice_get, Some, IfSome, IfOk, OnOk, OnErr, IsErrOf};
+ghost use Rattle.global_defs.specs.declared.limits.TheConstants.{MOST_GENERATIONS, MOST_REGIONS, NUMBERS_END};
 ghost use Rattle.disk_defs.specs.Disk.{Files, Image, From, AtEachMoment, MayFail};
 ghost use Rattle.disk_defs.specs.Frames.{Only, OthersStay};
-ghost use Rattle.instance_file.specs.Values.{record_value};
 ghost use Rattle.instance_file.specs.Instance as instances;
 ghost use Rattle.journal_defs.specs.Numbers.{journal_file};
 ghost use Rattle.journal_defs.specs.Instance as defs;
-ghost use Rattle.journal_defs.specs.Instance.{generation, regions, mode_in, mode_of};
+ghost use Rattle.journal_defs.specs.Instance.{generation, regions};
 ghost use Rattle.journal_defs.specs.Sequence.{Placed};
 ghost use Rattle.jnl_file.specs.Journal as journals;
 ghost use Rattle.jnl_file.specs.declared.journal.Journal.{Journal};
@@ -20,9 +19,8 @@ ghost use Rattle.site_files.specs.Loading.{MayBeOpened, WasRead, MayDraw, MayDra
 
 use crate::cuts::{cut_off, cut_open};
 use crate::error::FilesError;
-use crate::finding::generation_in;
 use gvn_key::NoMemory;
-use instance_file::{Instance, InstanceLog, InstanceRecord};
+use instance_file::{Instance, InstanceLog, InstanceRecords};
 use jnl_file::{Journal, JournalError};
 use repl_disk::Disk;
 use std::alloc::Global;
@@ -45,36 +43,11 @@ fn in_journal(error: JournalError, fault: u64) -> FilesError
     }
 }
 
-/// The mode that a record gives a region.
-fn mode_given(given: &InstanceRecord, region: u8) -> Option<bool>
-    ensures { result ≡ mode_in (record_value given.now) region }
-{
-    match given {
-        InstanceRecord::Create { regions, .. } => match regions.as_slice().get(region as usize) {
-            Some((_, before)) => Some(*before),
-            None => None,
-        },
-        InstanceRecord::Mode { region: of, before } if *of == region => Some(*before),
-        _ => None,
-    }
-}
-
-/// The mode of a region by these records: the last one that it was given, or BEFORE.
-fn mode_by(records: &[InstanceRecord], region: u8) -> bool
-    ensures { result ≡ unwrap_or (mode_of (map record_value records.now) region) true }
-{
-    let mut mode = None;
-    for given in records {
-        mode = mode_given(given, region).or(mode);
-    }
-    mode.unwrap_or(true)
-}
-
 /// Whether a generation that begins in a region keeps images, by these records: where it's anew in none, and else in the region's mode.
-fn mode_begun(records: &[InstanceRecord], region: u8, anew: bool) -> bool
-    ensures { result ≡ begun_mode anew (map record_value records.now) region }
+fn mode_begun(records: &InstanceRecords, region: u8, anew: bool) -> bool
+    ensures { result ≡ begun_mode anew records.now region }
 {
-    !anew && mode_by(records, region)
+    !anew && records.mode(region)
 }
 
 /// Makes a region's journal of a generation.
@@ -86,8 +59,8 @@ fn begin<D: Disk>(
     generation: u32,
     last: u32,
 ) -> Result<Journal, FilesError>
-    requires region { region < 8 }
-    requires generation { generation ≤ 65535 }
+    requires region { region < MOST_REGIONS }
+    requires generation { generation ≤ MOST_GENERATIONS }
     requires last { last < generation }
     requires empty { IfSome (D.disk disk.old).content (λ files. records (files (journal_file generation region)) ≡ Some []) }
     ensures ready { IfOk result (λ made. journals.IsReady (D.disk disk.new) made) }
@@ -122,8 +95,8 @@ fn begin_next<D: Disk>(
     generation: u32,
     last: u32,
 ) -> Result<(), FilesError>
-    requires region { region < 8 }
-    requires generation { generation ≤ 65535 }
+    requires region { region < MOST_REGIONS }
+    requires generation { generation ≤ MOST_GENERATIONS }
     requires last { last < generation }
     requires empty { IfSome (D.disk disk.old).content (λ files. records (files (journal_file generation region)) ≡ Some []) }
     ensures added { OnOk result ((made : Journal) × (begun.new.items ≡ begun.old.items ++ made ∷ []) × journals.IsReady (D.disk disk.new) made × journals.IsJournalOf made region generation × IfSome (D.disk disk.old).content (λ _. journals.HasRecords (D.disk disk.new) made (settled (pini region before generation last ∷ [])))) }
@@ -142,20 +115,20 @@ fn begin_next<D: Disk>(
 fn begin_all<D: Disk>(
     alloc: Global,
     disk: &mut D,
-    records: &[InstanceRecord],
+    records: &InstanceRecords,
     generation: u32,
     last_began: &[u32],
     anew: bool,
 ) -> Result<Vec<Journal>, FilesError>
-    requires few { length last_began.now ≤ 8 }
-    requires generation { generation ≤ 65535 }
+    requires few { length last_began.now ≤ MOST_REGIONS }
+    requires generation { generation ≤ MOST_GENERATIONS }
     requires earlier { (r : ℕ) → last_of last_began.now r < generation }
     requires unbegun { IfSome (D.disk disk.old).content (λ _. (f : Files) → Image (D.disk disk.old) f → AreUnbegun generation (length last_began.now) f) }
     ensures number { IfOk result (λ made. length made.items ≡ length last_began.now) }
     ensures ready { IfOk result (λ made. (r : ℕ) (j : Journal) → slice_get made.items r ≡ Some j → journals.IsReady (D.disk disk.new) j × journals.IsJournalOf j r generation) }
-    ensures state { IfOk result (λ made. IfSome (D.disk disk.old).content (λ _. (r : ℕ) (j : Journal) → slice_get made.items r ≡ Some j → journals.HasRecords (D.disk disk.new) j (settled (first_by anew (map record_value records.now) generation last_began.now r ∷ [])))) }
-    ensures begun { OnOk result (IfSome (D.disk disk.old).content (λ _. (f : Files) → Image (D.disk disk.new) f → From (Image (D.disk disk.old)) (HasBegun generation (length last_began.now) (first_by anew (map record_value records.now) generation last_began.now) (length last_began.now)) f)) }
-    ensures any_moment { IfSome (D.disk disk.old).content (λ _. AtEachMoment (D.disk disk.old) (D.disk disk.new) (From (Image (D.disk disk.old)) (λ was now. (k : ℕ) × HasBegun generation (length last_began.now) (first_by anew (map record_value records.now) generation last_began.now) k was now))) }
+    ensures state { IfOk result (λ made. IfSome (D.disk disk.old).content (λ _. (r : ℕ) (j : Journal) → slice_get made.items r ≡ Some j → journals.HasRecords (D.disk disk.new) j (settled (first_by anew records.now generation last_began.now r ∷ [])))) }
+    ensures begun { OnOk result (IfSome (D.disk disk.old).content (λ _. (f : Files) → Image (D.disk disk.new) f → From (Image (D.disk disk.old)) (HasBegun generation (length last_began.now) (first_by anew records.now generation last_began.now) (length last_began.now)) f)) }
+    ensures any_moment { IfSome (D.disk disk.old).content (λ _. AtEachMoment (D.disk disk.old) (D.disk disk.new) (From (Image (D.disk disk.old)) (λ was now. (k : ℕ) × HasBegun generation (length last_began.now) (first_by anew records.now generation last_began.now) k was now))) }
     ensures frame { OthersStay (AreJournalsOf generation (length last_began.now)) (D.disk disk.old) (D.disk disk.new) }
     ensures faults { MayFail (D.disk disk.old).faults (D.disk disk.new).faults (λ fault. IsErrOf result (FilesError.Failed fault)) }
     ensures causes { OnErr result (((fault : ℕ) × IsErrOf result (FilesError.Failed fault)) ⊎ IsErrOf result FilesError.NoMemory) }
@@ -185,8 +158,8 @@ fn begin_drawn<D: Disk>(
     anew: bool,
 ) -> Result<Drawn, FilesError>
     requires ready { instances.IsReady (D.disk disk.old) instance }
-    requires few { length last_began.now ≤ 8 }
-    requires generation { generation instance.records ≤ 65535 }
+    requires few { length last_began.now ≤ MOST_REGIONS }
+    requires generation { generation instance.records ≤ MOST_GENERATIONS }
     requires earlier { (r : ℕ) → last_of last_began.now r < generation instance.records }
     requires unbegun { IfSome (D.disk disk.old).content (λ _. (f : Files) → Image (D.disk disk.old) f → AreUnbegun (generation instance.records) (length last_began.now) f) }
     ensures instance { IfOk result (λ made. instances.IsReady (D.disk disk.new) made.instance) }
@@ -201,9 +174,8 @@ fn begin_drawn<D: Disk>(
     ensures faults { MayFail (D.disk disk.old).faults (D.disk disk.new).faults (λ fault. IsErrOf result (FilesError.Failed fault)) }
     ensures causes { OnErr result (((fault : ℕ) × IsErrOf result (FilesError.Failed fault)) ⊎ IsErrOf result FilesError.NoMemory) }
 {
-    let records = instance.records.as_slice();
-    let generation = generation_in(records);
-    let journals = begin_all(alloc, disk, records, generation, last_began, anew)?;
+    let newest = instance.records.generation();
+    let journals = begin_all(alloc, disk, &instance.records, newest, last_began, anew)?;
     Ok(Drawn { instance, journals })
 }
 
@@ -223,7 +195,7 @@ pub fn draw<D: Disk>(
 ) -> Result<Drawn, FilesError>
     requires form { MayBeOpened log.records (last_of last_began.now) }
     requires counted { length last_began.now ≡ length (regions log.records) }
-    requires count { count < 2 ^ 40 }
+    requires count { count < NUMBERS_END }
     requires read { IfSome (D.disk disk.old).content (λ files. (journal : ℕ → List Placed) × WasRead (D.disk disk.old) log.records (last_of last_began.now) journal files) }
     ensures instance { IfOk result (λ made. instances.IsReady (D.disk disk.new) made.instance) }
     ensures journal_count { IfOk result (λ made. length made.journals.items ≡ length (regions log.records)) }
@@ -257,7 +229,7 @@ pub fn draw_next<D: Disk>(
     requires ready { instances.IsReady (D.disk disk.old) instance }
     requires form { MayBeOpened instance.records (last_of last_began.now) }
     requires counted { length last_began.now ≡ length (regions instance.records) }
-    requires count { count < 2 ^ 40 }
+    requires count { count < NUMBERS_END }
     requires unbegun { IfSome (D.disk disk.old).content (λ _. (f : Files) → Image (D.disk disk.old) f → AreUnbegun (suc (generation instance.records)) (length (regions instance.records)) f) }
     ensures instance { IfOk result (λ made. instances.IsReady (D.disk disk.new) made.instance) }
     ensures journal_count { IfOk result (λ made. length made.journals.items ≡ length (regions instance.records)) }

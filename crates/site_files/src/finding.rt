@@ -1,10 +1,9 @@
 //! What the instance file on a disk says.
-ghost use Rattle.std.specs.Prelude.{◌≡◌, ◌⊎◌, ℕ, List, map, IfSome, IfOk, OnOk, OnErr, IsErrOf};
+ghost use Rattle.std.specs.Prelude.{◌≡◌, ◌⊎◌, ℕ, List, IfSome, IfOk, OnOk, OnErr, IsErrOf};
 ghost use Rattle.std.specs.List.{AllByRecursion};
 ghost use Rattle.disk_defs.specs.Disk.{Image, IsDurable, AtEachMoment, MayFail};
 ghost use Rattle.disk_defs.specs.Frames.{Only, OthersStay};
 ghost use Rattle.instance_file.specs.Order.{AreInOrder};
-ghost use Rattle.instance_file.specs.Values.{record_value};
 ghost use Rattle.journal_defs.specs.Numbers.{INSTANCE};
 ghost use Rattle.journal_defs.specs.Instance as defs;
 ghost use Rattle.journal_defs.specs.Instance.{IsInForm};
@@ -14,12 +13,10 @@ ghost use Rattle.site_defs.specs.Outside.{IsNoInstance};
 
 use crate::error::FilesError;
 use gated_file::{GateError, sync_file};
-use instance_file::{InstanceError, InstanceLog, InstanceRecord};
+use instance_file::{InstanceError, InstanceLog};
+use journal_defs::files::INSTANCE_FILE;
 use repl_disk::Disk;
 use std::alloc::Global;
-
-/// The number of the instance file.
-const FILE: u32 = 0;
 
 /// An error of the instance file, on a disk with this count of faults.
 pub fn in_instance(error: InstanceError, fault: u64) -> FilesError
@@ -32,29 +29,6 @@ pub fn in_instance(error: InstanceError, fault: u64) -> FilesError
     }
 }
 
-/// The name in a CREATE that these records begin with, or no byte where they begin with another one.
-pub fn created_name(records: &[InstanceRecord]) -> &[u8]
-    ensures { result.now ≡ defs.site_name (map record_value records.now) }
-{
-    match records {
-        [InstanceRecord::Create { name, .. }, ..] => name.as_slice(),
-        _ => &[],
-    }
-}
-
-/// The greatest generation of a CUT, or 0.
-pub fn generation_in(records: &[InstanceRecord]) -> u32
-    ensures { result ≡ defs.generation (map record_value records.now) }
-{
-    let mut greatest = 0;
-    for record in records {
-        if let InstanceRecord::Cut { generation, .. } = record {
-            greatest = (*generation).max(greatest);
-        }
-    }
-    greatest
-}
-
 /// Syncs the instance file.
 pub fn sync_instance<D: Disk>(disk: &mut D) -> Result<(), FilesError>
     ensures durable { OnOk result (IfSome (D.disk disk.old).content (λ files. IsDurable (D.disk disk.new) INSTANCE (files INSTANCE))) }
@@ -64,7 +38,7 @@ pub fn sync_instance<D: Disk>(disk: &mut D) -> Result<(), FilesError>
     ensures faults { MayFail (D.disk disk.old).faults (D.disk disk.new).faults (λ fault. IsErrOf result (FilesError.Failed fault)) }
     ensures outside { (file offset : ℕ) → IsErrOf result (FilesError.NotAFile file offset) → ⊥ }
 {
-    match sync_file(disk, FILE) {
+    match sync_file(disk, INSTANCE_FILE) {
         Ok(()) => Ok(()),
         Err(GateError::Failed) => Err(FilesError::Failed {
             fault: disk.faults(),

@@ -1,5 +1,7 @@
 //! What was read, as the records that files hold; and what drawing the next generation leaves of what they stand for.
 ghost use Rattle.std.specs.Prelude.{◌≡◌, ℕ, suc, ◌<◌, ◌≤◌, ◌^◌, ◌++◌, ◌∷◌, [], Bool, List, length, take};
+ghost use Rattle.site_defs.specs.Limits.{LAST_GENERATION};
+ghost use Rattle.global_defs.specs.declared.limits.TheConstants.{MOST_GENERATIONS, NUMBERS_END};
 ghost use Rattle.disk_defs.specs.Disk.{Files, Image};
 ghost use Rattle.disk_defs.specs.Frames.{Only, SameOutside};
 ghost use Rattle.global_defs.specs.Entry.{Sequence};
@@ -66,7 +68,7 @@ pub fn drawing_keeps_the_sequence()
 
 /// A site that is cut off has the journals that were read of it, and another generation may be drawn. It does nothing.
 pub fn cutting_off_leaves_a_site()
-    ensures form { (rs : List InstanceRecord) (n : ℕ) (last : ℕ → ℕ) → MayBeOpened rs last → generation rs < 65534 → n < 2 ^ 40
+    ensures form { (rs : List InstanceRecord) (n : ℕ) (last : ℕ → ℕ) → MayBeOpened rs last → generation rs < LAST_GENERATION → n < NUMBERS_END
         → MayBeOpened (rs ++ next_cut rs n ∷ []) last }
     ensures regions { (rs : List InstanceRecord) (n : ℕ) (last : ℕ → ℕ) → MayBeOpened rs last → regions (rs ++ next_cut rs n ∷ []) ≡ regions rs }
     ensures newest { (rs : List InstanceRecord) (n : ℕ) (last : ℕ → ℕ) → MayBeOpened rs last → generation (rs ++ next_cut rs n ∷ []) ≡ suc (generation rs) }
@@ -75,7 +77,7 @@ pub fn cutting_off_leaves_a_site()
         → AreRead (rs ++ next_cut rs n ∷ []) last journal b }
     // the lost-transaction files are no part of that
     ensures lost { (a b : Files) (rs : List InstanceRecord) (last : ℕ → ℕ) (journal : ℕ → List Placed) (g : ℕ) → MayBeOpened rs last
-        → AreRead rs last journal a → g ≤ 65535 → SameOutside (Only (lost_file g)) a b → AreRead rs last journal b }
+        → AreRead rs last journal a → g ≤ MOST_GENERATIONS → SameOutside (Only (lost_file g)) a b → AreRead rs last journal b }
 {}
 
 /// The lost-transaction file of a generation that was drawn may have any bytes. It does nothing.

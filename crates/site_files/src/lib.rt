@@ -19,7 +19,7 @@ mod texts;
 pub use cuts::cut_off;
 pub use drawing::{Drawn, draw, draw_next};
 pub use error::FilesError;
-pub use finding::{created_name, generation_in, in_instance, read_instance, sync_instance};
+pub use finding::{in_instance, read_instance, sync_instance};
 pub use laws::{
     cutting_off_leaves_a_site, drawing_keeps_the_sequence, images_have_what_was_read,
     lost_files_are_free, reading_gives_the_records,

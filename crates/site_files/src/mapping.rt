@@ -1,25 +1,15 @@
 //! The directory that the records of an instance file give.
-ghost use Rattle.std.specs.Prelude.{◌≡◌, ◌↔◌, ◌≤◌, ◌<◌, ◌++◌, ◌∷◌, [], length, map, IfOk, IfSome, IsSome, IsTrue};
+ghost use Rattle.std.specs.Prelude.{◌≡◌, ◌↔◌, ◌≤◌, ◌<◌, ◌++◌, ◌∷◌, [], map, IfOk, IfSome, IsSome, IsTrue};
 ghost use Rattle.std.specs.List.{AllByRecursion};
 ghost use Rattle.instance_file.specs.Values.{record_value};
-ghost use Rattle.journal_defs.specs.Instance as defs;
 ghost use Rattle.journal_defs.specs.Directory.{patterns};
 ghost use Rattle.site_files.specs.Loading.{IsDirectory};
 
+use global_defs::limits::MOST_REGIONS;
 use global_dir::Directory;
 use gvn_key::NoMemory;
-use instance_file::InstanceRecord;
+use instance_file::{InstanceRecord, InstanceRecords};
 use std::alloc::Global;
-
-/// How many regions the CREATE names that these records begin with, or 0 where they begin with another one.
-fn region_count(records: &[InstanceRecord]) -> usize
-    ensures { result ≡ length (defs.regions (map record_value records.now)) }
-{
-    match records {
-        [InstanceRecord::Create { regions, .. }, ..] => regions.len(),
-        _ => 0,
-    }
-}
 
 /// Adds the pattern of a MAP to a directory. It answers `false` where the directory has no region of that number.
 fn add_pattern(directory: &mut Directory, given: &InstanceRecord) -> Result<bool, NoMemory>
@@ -44,7 +34,7 @@ fn mapped(
     records: &[InstanceRecord],
 ) -> Result<Option<Directory>, NoMemory>
     requires some { 1 ≤ regions }
-    requires few { regions ≤ 8 }
+    requires few { regions ≤ MOST_REGIONS }
     ensures regions { IfOk result (λ made. IfSome made (λ d. d.regions ≡ regions)) }
     ensures patterns { IfOk result (λ made. IfSome made (λ d. d.patterns ≡ patterns (map record_value records.now))) }
     ensures fits { IfOk result (λ made. IsSome made ↔ AllByRecursion (λ p. p.region < regions) (patterns (map record_value records.now))) }
@@ -59,16 +49,13 @@ fn mapped(
 }
 
 /// The directory that these records give, or `None` where there is no region, more than eight, or a MAP of another one.
-pub fn directory_of(
-    alloc: Global,
-    records: &[InstanceRecord],
-) -> Result<Option<Directory>, NoMemory>
-    ensures directory { IfOk result (λ made. IsDirectory (map record_value records.now) made) }
-    ensures mapped { IfOk result (λ made. IfSome made (λ d. AllByRecursion (λ p. p.region < d.regions) (patterns (map record_value records.now)))) }
+pub fn directory_of(alloc: Global, records: &InstanceRecords) -> Result<Option<Directory>, NoMemory>
+    ensures directory { IfOk result (λ made. IsDirectory records.now made) }
+    ensures mapped { IfOk result (λ made. IfSome made (λ d. AllByRecursion (λ p. p.region < d.regions) (patterns records.now))) }
 {
-    let count = region_count(records);
-    if count == 0 || 8 < count {
+    let count = records.region_count();
+    if count == 0 || usize::from(MOST_REGIONS) < count {
         return Ok(None);
     }
-    mapped(alloc, count as u8, records)
+    mapped(alloc, count as u8, records.as_slice())
 }

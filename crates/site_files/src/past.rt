@@ -1,5 +1,6 @@
 //! The parts past the length of a site, read again from their places.
 ghost use Rattle.std.specs.Prelude.{◌≡◌, ◌⊎◌, ◌≤◌, ◌<◌, ◌++◌, ◌∷◌, [], ℕ, List, length, map, IfOk, IfSome, OnOk, OnErr, IsErrOf};
+ghost use Rattle.global_defs.specs.declared.limits.TheConstants.{MOST_REGIONS};
 ghost use Rattle.disk_defs.specs.Disk.{Reads, MayFail};
 ghost use Rattle.journal_defs.specs.Sequence.{Placed};
 ghost use Rattle.jnl_record.specs.Values.{placed_value};
@@ -10,7 +11,8 @@ ghost use Rattle.site_files.specs.Errors.{placed_error};
 ghost use Rattle.site_files.specs.Past.{is_past_by_sign, all_past, AreRegionSigns};
 
 use crate::error::FilesError;
-use entry_index::{LAST_GENERATION, PlacedSign, Sign, read_placed};
+use entry_index::{PlacedSign, Sign, read_placed};
+use global_defs::limits::MOST_GENERATIONS;
 use gvn_key::NoMemory;
 use jnl_file::{JournalError, journal_file};
 use jnl_record::PlacedRecord;
@@ -45,9 +47,9 @@ fn read_record<D: Disk>(
     region: u8,
     placed: &PlacedSign,
 ) -> Result<PlacedRecord, FilesError>
-    requires { region < 8 }
+    requires { region < MOST_REGIONS }
     ensures found { IfOk result (λ made. IfSome (D.disk disk.old).content (λ files. (p : Placed) → IsSignOf files region placed.now p → placed_value made ≡ p)) }
-    ensures outside { (file offset : ℕ) → IsErrOf result (FilesError.NotAFile file offset) → IfSome (D.disk disk.old).content (λ files. (p : Placed) → IsSignOf files region placed.now p → p.generation ≤ 65535 → ⊥) }
+    ensures outside { (file offset : ℕ) → IsErrOf result (FilesError.NotAFile file offset) → IfSome (D.disk disk.old).content (λ files. (p : Placed) → IsSignOf files region placed.now p → p.generation ≤ MOST_GENERATIONS → ⊥) }
     ensures reads { Reads (D.disk disk.old) (D.disk disk.new) }
     ensures faults { MayFail (D.disk disk.old).faults (D.disk disk.new).faults (λ fault. IsErrOf result (FilesError.Failed fault)) }
     ensures causes { OnErr result (((fault : ℕ) × IsErrOf result (FilesError.Failed fault)) ⊎ ((file : ℕ) × (offset : ℕ) × IsErrOf result (FilesError.NotAFile file offset)) ⊎ IsErrOf result FilesError.NoMemory) }
@@ -57,7 +59,7 @@ fn read_record<D: Disk>(
         offset,
         ..
     } = *placed;
-    if generation > LAST_GENERATION {
+    if generation > MOST_GENERATIONS {
         return Err(FilesError::NotAFile {
             file: u32::MAX,
             offset,
@@ -87,9 +89,9 @@ fn add_past<D: Disk>(
     length: u64,
     made: &mut Vec<PlacedRecord>,
 ) -> Result<(), FilesError>
-    requires { region < 8 }
+    requires { region < MOST_REGIONS }
     ensures added { OnOk result (IfSome (D.disk disk.old).content (λ files. (p : Placed) → IsSignOf files region placed.now p → map placed_value made.new.items ≡ map placed_value made.old.items ++ all_past length (p ∷ []))) }
-    ensures outside { (file offset : ℕ) → IsErrOf result (FilesError.NotAFile file offset) → IfSome (D.disk disk.old).content (λ files. (p : Placed) → IsSignOf files region placed.now p → p.generation ≤ 65535 → ⊥) }
+    ensures outside { (file offset : ℕ) → IsErrOf result (FilesError.NotAFile file offset) → IfSome (D.disk disk.old).content (λ files. (p : Placed) → IsSignOf files region placed.now p → p.generation ≤ MOST_GENERATIONS → ⊥) }
     ensures reads { Reads (D.disk disk.old) (D.disk disk.new) }
     ensures faults { MayFail (D.disk disk.old).faults (D.disk disk.new).faults (λ fault. IsErrOf result (FilesError.Failed fault)) }
     ensures causes { OnErr result (((fault : ℕ) × IsErrOf result (FilesError.Failed fault)) ⊎ ((file : ℕ) × (offset : ℕ) × IsErrOf result (FilesError.NotAFile file offset)) ⊎ IsErrOf result FilesError.NoMemory) }
@@ -110,7 +112,7 @@ fn read_region<D: Disk>(
     signs: &[PlacedSign],
     length: u64,
 ) -> Result<Vec<PlacedRecord>, FilesError>
-    requires { region < 8 }
+    requires { region < MOST_REGIONS }
     ensures read { IfOk result (λ made. IfSome (D.disk disk.old).content (λ files. (journal : List Placed) → AreRegionSigns files region signs.now journal → map placed_value made.items ≡ all_past length journal)) }
     ensures outside { (file offset : ℕ) → IsErrOf result (FilesError.NotAFile file offset) → IfSome (D.disk disk.old).content (λ files. (journal : List Placed) → AreRegionSigns files region signs.now journal → ⊥) }
     ensures reads { Reads (D.disk disk.old) (D.disk disk.new) }
@@ -142,7 +144,7 @@ pub fn read_past<D: Disk>(
     signs: &[Vec<PlacedSign>],
     count: u64,
 ) -> Result<Vec<Vec<PlacedRecord>>, FilesError>
-    requires { length signs.now ≤ 8 }
+    requires { length signs.now ≤ MOST_REGIONS }
     ensures read { IfOk result (λ made. IfSome (D.disk disk.old).content (λ files. (journal : ℕ → List Placed) → AreSigns files (map (λ s. s.items) signs.now) journal
         → (r : ℕ) → journal_of (map (λ j. j.items) made.items) r ≡ all_past count (journal r))) }
     ensures outside { (file offset : ℕ) → IsErrOf result (FilesError.NotAFile file offset) → IfSome (D.disk disk.old).content (λ files. (journal : ℕ → List Placed) → AreSigns files (map (λ s. s.items) signs.now) journal → ⊥) }

@@ -1,10 +1,10 @@
 //! Reading the files of a site.
 ghost use Rattle.std.specs.Prelude.{◌≡◌, ◌⊎◌, ◌≤◌, ◌<◌, ◌*◌, ◌++◌, ◌∷◌, [], ℕ, suc, List, length, map, Some, None, IfSome, IfOk, OnOk, OnErr, IsErrOf};
+ghost use Rattle.global_defs.specs.declared.limits.TheConstants.{MOST_GENERATIONS, MOST_REGIONS};
 ghost use Rattle.disk_defs.specs.Disk.{Image, IsDurable, AtEachMoment, Reads, MayFail};
 ghost use Rattle.disk_defs.specs.Gates.{records};
 ghost use Rattle.std.specs.List.{AllByRecursion};
 ghost use Rattle.instance_file.specs.Order.{AreInOrder};
-ghost use Rattle.instance_file.specs.Values.{record_value};
 ghost use Rattle.journal_defs.specs.Directory.{Pattern, patterns};
 ghost use Rattle.journal_defs.specs.Numbers.{INSTANCE, journal_file};
 ghost use Rattle.journal_defs.specs.Instance as defs;
@@ -27,7 +27,7 @@ ghost use Rattle.site_defs.specs.Outside.{AreOutside, HaveBegun, IsOutsideRecord
 ghost use Rattle.site_files.specs.Reading.{HaveSigns, AreAllDurable, AreUnbegunDurable, HoldNoSite};
 
 use crate::error::FilesError;
-use crate::finding::{generation_in, read_instance};
+use crate::finding::read_instance;
 use crate::mapping::directory_of;
 use entry_index::{
     EntryIndex, FoundJournals, IndexError, PlacedSign, RegionSigns, index_generations,
@@ -35,13 +35,13 @@ use entry_index::{
 };
 use global_dir::Directory;
 use gvn_key::NoMemory;
-use instance_file::{InstanceLog, InstanceRecord};
+use instance_file::{InstanceLog, InstanceRecords};
 use jnl_file::{GenerationsError, is_unbegun, journal_file};
 use repl_disk::Disk;
 use std::alloc::Global;
 
 /// No opening draws a generation past this one.
-const LAST_GENERATION: u32 = 65_534;
+const LAST_GENERATION: u32 = global_defs::limits::MOST_GENERATIONS - 1;
 
 /// What was read of a site.
 #[derive(Drop)]
@@ -56,7 +56,7 @@ pub struct ReadSite {
     pub last_began: Vec<u32>,
     /// The lowest target for which its regions may be opened; one past all entries stands for these.
     pub lowest: u64,
-    pub ghost few: { length signs.items ≤ 8 },
+    pub ghost few: { length signs.items ≤ MOST_REGIONS },
 }
 
 /// What was read of a site, and the entries for which it stands.
@@ -85,8 +85,8 @@ fn index_journals<D: Disk>(
     region: u8,
     last: u32,
 ) -> Result<RegionSigns, FilesError>
-    requires region { region < 8 }
-    requires last { last ≤ 65535 }
+    requires region { region < MOST_REGIONS }
+    requires last { last ≤ MOST_GENERATIONS }
     ensures read { IfOk result (λ made. IfSome (D.disk disk.old).content (λ files. (journal : List Placed) × IsJournal files region last made.last_began journal × AreSignsOf files region made.signs.items journal × orders.AreInOrder made.signs.items journal)) }
     ensures began { IfOk result (λ made. made.last_began ≤ last) }
     ensures durable { OnOk result (IfSome (D.disk disk.old).content (AreDurable (D.disk disk.new) region last)) }
@@ -145,7 +145,7 @@ fn index_of<D: Disk>(
     log: &InstanceLog,
     signs: &[Vec<PlacedSign>],
 ) -> Result<EntryIndex, FilesError>
-    requires few { length signs.now ≤ 8 }
+    requires few { length signs.now ≤ MOST_REGIONS }
     ensures sequence { IfOk result (λ made. IfSome (D.disk disk.old).content (λ files. (journal : ℕ → List Placed) → AreSigns files (map (λ s. s.items) signs.now) journal
         → (seq : Sequence) × IsSequence (record { instance = log.now.records; journal = journal }) seq × Indexes (InFiles files) (reigns log.now.records) made seq)) }
     ensures regions { IfOk result (λ made. made.regions ≡ length signs.now) }
@@ -170,8 +170,8 @@ fn read_in_turn<D: Disk>(
     regions: u8,
     last: u32,
 ) -> Result<FoundJournals, FilesError>
-    requires regions { regions ≤ 8 }
-    requires last { last ≤ 65535 }
+    requires regions { regions ≤ MOST_REGIONS }
+    requires last { last ≤ MOST_GENERATIONS }
     ensures found { IfOk result (λ made. IfSome (D.disk disk.old).content (λ files. (lowest : ℕ) → (journal : ℕ → List Placed)
         × HaveFound files log.now.records lowest regions last (map (λ s. s.items) made.signs.items) made.last_began.items made.entries journal)) }
     ensures many { IfOk result (λ made. length made.signs.items ≡ regions) }
@@ -206,8 +206,8 @@ fn read_journals<D: Disk>(
     last: u32,
     lowest: u64,
 ) -> Result<FoundJournals, FilesError>
-    requires regions { regions ≤ 8 }
-    requires last { last ≤ 65535 }
+    requires regions { regions ≤ MOST_REGIONS }
+    requires last { last ≤ MOST_GENERATIONS }
     ensures found { IfOk result (λ made. IfSome (D.disk disk.old).content (λ files. (journal : ℕ → List Placed)
         × HaveFound files log.now.records lowest regions last (map (λ s. s.items) made.signs.items) made.last_began.items made.entries journal)) }
     ensures many { IfOk result (λ made. length made.signs.items ≡ regions) }
@@ -238,8 +238,8 @@ fn read_regions<D: Disk>(
     regions: u8,
     last: u32,
 ) -> Result<ReadRegions, FilesError>
-    requires regions { regions ≤ 8 }
-    requires last { last ≤ 65535 }
+    requires regions { regions ≤ MOST_REGIONS }
+    requires last { last ≤ MOST_GENERATIONS }
     ensures read { IfOk result (λ made. IfSome (D.disk disk.old).content (HaveSigns regions last (last_of made.last_began.items) (map (λ s. s.items) made.signs.items))) }
     ensures many { IfOk result (λ made. length made.signs.items ≡ regions) }
     ensures many_last { IfOk result (λ made. length made.last_began.items ≡ regions) }
@@ -269,8 +269,8 @@ fn see_unbegun<D: Disk>(
     region: u8,
     generation: u32,
 ) -> Result<(), FilesError>
-    requires region { region < 8 }
-    requires generation { generation ≤ 65535 }
+    requires region { region < MOST_REGIONS }
+    requires generation { generation ≤ MOST_GENERATIONS }
     ensures next { OnOk result (IfSome (D.disk disk.old).content (λ files. records (files (journal_file generation region)) ≡ Some [])) }
     ensures durable { OnOk result (IfSome (D.disk disk.old).content (λ files. IsDurable (D.disk disk.new) (journal_file generation region) (files (journal_file generation region)))) }
     ensures place { (file offset : ℕ) → IsErrOf result (FilesError.NotAFile file offset) → (file ≡ journal_file generation region) × (offset ≡ 0) }
@@ -298,8 +298,8 @@ fn see_regions<D: Disk>(
     regions: u8,
     generation: u32,
 ) -> Result<(), FilesError>
-    requires regions { regions ≤ 8 }
-    requires generation { generation ≤ 65535 }
+    requires regions { regions ≤ MOST_REGIONS }
+    requires generation { generation ≤ MOST_GENERATIONS }
     ensures next { OnOk result (IfSome (D.disk disk.old).content (AreUnbegun regions generation)) }
     ensures durable { OnOk result (IfSome (D.disk disk.old).content (AreUnbegunDurable (D.disk disk.new) regions generation)) }
     ensures place { (file offset : ℕ) → IsErrOf result (FilesError.NotAFile file offset) → IfSome (D.disk disk.old).content (λ files. HaveBegun files regions generation file offset) }
@@ -327,14 +327,14 @@ struct Plan {
 }
 
 /// The directory and the newest generation by these records.
-fn plan_of(alloc: Global, records: &[InstanceRecord]) -> Result<Plan, FilesError>
-    ensures directory { IfOk result (λ plan. IsDirectory (map record_value records.now) (Some plan.directory)) }
-    ensures mapped { IfOk result (λ plan. AllByRecursion (λ (p : Pattern). p.region < plan.directory.regions) (patterns (map record_value records.now))) }
+fn plan_of(alloc: Global, records: &InstanceRecords) -> Result<Plan, FilesError>
+    ensures directory { IfOk result (λ plan. IsDirectory records.now (Some plan.directory)) }
+    ensures mapped { IfOk result (λ plan. AllByRecursion (λ (p : Pattern). p.region < plan.directory.regions) (patterns records.now)) }
     ensures regions { IfOk result (λ plan. plan.regions ≡ plan.directory.regions) }
-    ensures few { IfOk result (λ plan. plan.regions ≤ 8) }
-    ensures newest { IfOk result (λ plan. plan.newest ≡ generation (map record_value records.now)) }
+    ensures few { IfOk result (λ plan. plan.regions ≤ MOST_REGIONS) }
+    ensures newest { IfOk result (λ plan. plan.newest ≡ generation records.now) }
     ensures place { (file offset : ℕ) → IsErrOf result (FilesError.NotAFile file offset) → (file ≡ INSTANCE) × (offset ≡ 0) }
-    ensures outside { (file offset : ℕ) → IsErrOf result (FilesError.NotAFile file offset) → IsDirectory (map record_value records.now) None }
+    ensures outside { (file offset : ℕ) → IsErrOf result (FilesError.NotAFile file offset) → IsDirectory records.now None }
     ensures causes { OnErr result (((file : ℕ) × (offset : ℕ) × IsErrOf result (FilesError.NotAFile file offset)) ⊎ IsErrOf result FilesError.NoMemory) }
 {
     let Some(directory) = directory_of(alloc, records)? else {
@@ -344,21 +344,21 @@ fn plan_of(alloc: Global, records: &[InstanceRecord]) -> Result<Plan, FilesError
     Ok(Plan {
         directory,
         regions,
-        newest: generation_in(records),
+        newest: records.generation(),
     })
 }
 
 /// The same where a site may be opened by these records.
-fn lay_out(alloc: Global, records: &[InstanceRecord]) -> Result<Plan, FilesError>
-    ensures directory { IfOk result (λ plan. IsDirectory (map record_value records.now) (Some plan.directory)) }
-    ensures mapped { IfOk result (λ plan. AllByRecursion (λ (p : Pattern). p.region < plan.directory.regions) (patterns (map record_value records.now))) }
+fn lay_out(alloc: Global, records: &InstanceRecords) -> Result<Plan, FilesError>
+    ensures directory { IfOk result (λ plan. IsDirectory records.now (Some plan.directory)) }
+    ensures mapped { IfOk result (λ plan. AllByRecursion (λ (p : Pattern). p.region < plan.directory.regions) (patterns records.now)) }
     ensures regions { IfOk result (λ plan. plan.regions ≡ plan.directory.regions) }
-    ensures few { IfOk result (λ plan. plan.regions ≤ 8) }
-    ensures newest { IfOk result (λ plan. plan.newest ≡ generation (map record_value records.now)) }
-    ensures low { IfOk result (λ plan. plan.newest < 65534) }
-    ensures limit { IsErrOf result FilesError.GenLimit → 65534 ≤ generation (map record_value records.now) }
+    ensures few { IfOk result (λ plan. plan.regions ≤ MOST_REGIONS) }
+    ensures newest { IfOk result (λ plan. plan.newest ≡ generation records.now) }
+    ensures low { IfOk result (λ plan. plan.newest < LAST_GENERATION) }
+    ensures limit { IsErrOf result FilesError.GenLimit → LAST_GENERATION ≤ generation records.now }
     ensures place { (file offset : ℕ) → IsErrOf result (FilesError.NotAFile file offset) → (file ≡ INSTANCE) × (offset ≡ 0) }
-    ensures outside { (file offset : ℕ) → IsErrOf result (FilesError.NotAFile file offset) → IsDirectory (map record_value records.now) None }
+    ensures outside { (file offset : ℕ) → IsErrOf result (FilesError.NotAFile file offset) → IsDirectory records.now None }
     ensures no_fault { (fault : ℕ) → IsErrOf result (FilesError.Failed fault) → ⊥ }
 {
     let plan = plan_of(alloc, records)?;
@@ -375,7 +375,7 @@ fn with_found(
     found: FoundJournals,
     lowest: u64,
 ) -> ReadEntries
-    requires { length found.signs.items ≤ 8 }
+    requires { length found.signs.items ≤ MOST_REGIONS }
     ensures log { result.read.log ≡ log }
     ensures directory { result.read.directory ≡ directory }
     ensures signs { result.read.signs ≡ found.signs }
@@ -426,7 +426,7 @@ pub fn read_records<D: Disk>(
     ensures causes { OnErr result (((fault : ℕ) × IsErrOf result (FilesError.Failed fault)) ⊎ ((file : ℕ) × (offset : ℕ) × IsErrOf result (FilesError.NotAFile file offset)) ⊎ IsErrOf result FilesError.NoMemory) }
 {
     let log = read_instance(alloc, disk)?;
-    let plan = plan_of(alloc, log.records.as_slice())?;
+    let plan = plan_of(alloc, &log.records)?;
     let found = read_journals(alloc, disk, &log, plan.regions, plan.newest, lowest)?;
     Ok(with_found(log, plan.directory, found, lowest))
 }
@@ -448,19 +448,19 @@ pub fn read_site<D: Disk>(
     ensures directory { IfOk result (λ found. IsDirectory found.read.log.records (Some found.read.directory)) }
     ensures counted { IfOk result (λ found. length found.read.last_began.items ≡ length (defs.regions found.read.log.records)) }
     // another generation than the next one is left
-    ensures low { IfOk result (λ found. generation found.read.log.records < 65534) }
+    ensures low { IfOk result (λ found. generation found.read.log.records < LAST_GENERATION) }
     ensures read { IfOk result (λ found. IfSome (D.disk disk.old).content (λ files. (journal : ℕ → List Placed) × (seq : Sequence)
         × WasRead (D.disk disk.new) found.read.log.records (last_of found.read.last_began.items) journal files
         × AreFound files found.read.log.records found.read.lowest (map (λ s. s.items) found.read.signs.items) found.entries (record { instance = found.read.log.records; journal = journal }) seq
         × IsIndexOf journal (reigns found.read.log.records) found.entries seq)) }
     ensures signs { IfOk result (λ found. length found.read.signs.items ≡ length (defs.regions found.read.log.records)) }
     ensures rows { IfOk result (λ found. (found.entries.regions ≡ length (defs.regions found.read.log.records)) × (n : ℕ) × (length found.entries.places.items ≡ found.entries.regions * n)) }
-    ensures limit { IsErrOf result FilesError.GenLimit → IfSome (D.disk disk.old).content (λ files. (rs : List defs.InstanceRecord) → IsInstance (files INSTANCE) rs → 65534 ≤ generation rs) }
-    ensures limit_told { IsErrOf result FilesError.GenLimit → IfSome (D.disk disk.old).content (λ files. (rs : List defs.InstanceRecord) × IsInstance (files INSTANCE) rs × (65534 ≤ generation rs)) }
+    ensures limit { IsErrOf result FilesError.GenLimit → IfSome (D.disk disk.old).content (λ files. (rs : List defs.InstanceRecord) → IsInstance (files INSTANCE) rs → LAST_GENERATION ≤ generation rs) }
+    ensures limit_told { IsErrOf result FilesError.GenLimit → IfSome (D.disk disk.old).content (λ files. (rs : List defs.InstanceRecord) × IsInstance (files INSTANCE) rs × (LAST_GENERATION ≤ generation rs)) }
     ensures place { (file offset : ℕ) → IsErrOf result (FilesError.NotAFile file offset) → IfSome (D.disk disk.old).content (λ files. IsOutsideSite files file offset) }
     ensures outside { (file offset : ℕ) → IsErrOf result (FilesError.NotAFile file offset) → IfSome (D.disk disk.old).content (λ files. (rs : List defs.InstanceRecord) (last : ℕ → ℕ) (journal : ℕ → List Placed) → MayBeOpened rs last → AreRead rs last journal files → ⊥) }
     // where no generation is left, the records alone may be at fault
-    ensures late { (file offset : ℕ) → IsErrOf result (FilesError.NotAFile file offset) → IfSome (D.disk disk.old).content (λ files. (rs : List defs.InstanceRecord) → IsInstance (files INSTANCE) rs → 65534 ≤ generation rs → IsDirectory rs None) }
+    ensures late { (file offset : ℕ) → IsErrOf result (FilesError.NotAFile file offset) → IfSome (D.disk disk.old).content (λ files. (rs : List defs.InstanceRecord) → IsInstance (files INSTANCE) rs → LAST_GENERATION ≤ generation rs → IsDirectory rs None) }
     ensures content { (D.disk disk.new).content ≡ (D.disk disk.old).content }
     ensures any_moment { AtEachMoment (D.disk disk.old) (D.disk disk.new) (Image (D.disk disk.old)) }
     ensures simulated { (D.disk disk.new).simulated ≡ (D.disk disk.old).simulated }
@@ -468,7 +468,7 @@ pub fn read_site<D: Disk>(
     ensures causes { OnErr result (IsErrOf result FilesError.GenLimit ⊎ ((fault : ℕ) × IsErrOf result (FilesError.Failed fault)) ⊎ ((file : ℕ) × (offset : ℕ) × IsErrOf result (FilesError.NotAFile file offset)) ⊎ IsErrOf result FilesError.NoMemory) }
 {
     let log = read_instance(alloc, disk)?;
-    let plan = lay_out(alloc, log.records.as_slice())?;
+    let plan = lay_out(alloc, &log.records)?;
     let found = read_journals(alloc, disk, &log, plan.regions, plan.newest, lowest)?;
     see_regions(alloc, disk, plan.regions, plan.newest + 1)?;
     Ok(with_found(log, plan.directory, found, lowest))
@@ -482,20 +482,20 @@ pub fn read_site<D: Disk>(
 pub fn see_ahead<D: Disk>(
     alloc: Global,
     disk: &mut D,
-    records: &[InstanceRecord],
+    records: &InstanceRecords,
     directory: &Directory,
 ) -> Result<(), FilesError>
-    requires directory { IsDirectory (map record_value records.now) (Some directory.now) }
-    requires low { generation (map record_value records.now) < 65534 }
-    ensures next { OnOk result (IfSome (D.disk disk.old).content (AreUnbegun (length (defs.regions (map record_value records.now))) (suc (suc (generation (map record_value records.now)))))) }
-    ensures durable { OnOk result (IfSome (D.disk disk.old).content (AreUnbegunDurable (D.disk disk.new) (length (defs.regions (map record_value records.now))) (suc (suc (generation (map record_value records.now)))))) }
-    ensures place { (file offset : ℕ) → IsErrOf result (FilesError.NotAFile file offset) → IfSome (D.disk disk.old).content (λ files. HaveBegun files (length (defs.regions (map record_value records.now))) (suc (suc (generation (map record_value records.now)))) file offset) }
-    ensures outside { (file offset : ℕ) → IsErrOf result (FilesError.NotAFile file offset) → IfSome (D.disk disk.old).content (λ files. AreUnbegun (length (defs.regions (map record_value records.now))) (suc (suc (generation (map record_value records.now)))) files → ⊥) }
+    requires directory { IsDirectory records.now (Some directory.now) }
+    requires low { generation records.now < LAST_GENERATION }
+    ensures next { OnOk result (IfSome (D.disk disk.old).content (AreUnbegun (length (defs.regions records.now)) (suc (suc (generation records.now))))) }
+    ensures durable { OnOk result (IfSome (D.disk disk.old).content (AreUnbegunDurable (D.disk disk.new) (length (defs.regions records.now)) (suc (suc (generation records.now))))) }
+    ensures place { (file offset : ℕ) → IsErrOf result (FilesError.NotAFile file offset) → IfSome (D.disk disk.old).content (λ files. HaveBegun files (length (defs.regions records.now)) (suc (suc (generation records.now))) file offset) }
+    ensures outside { (file offset : ℕ) → IsErrOf result (FilesError.NotAFile file offset) → IfSome (D.disk disk.old).content (λ files. AreUnbegun (length (defs.regions records.now)) (suc (suc (generation records.now))) files → ⊥) }
     ensures content { (D.disk disk.new).content ≡ (D.disk disk.old).content }
     ensures any_moment { AtEachMoment (D.disk disk.old) (D.disk disk.new) (Image (D.disk disk.old)) }
     ensures simulated { (D.disk disk.new).simulated ≡ (D.disk disk.old).simulated }
     ensures faults { MayFail (D.disk disk.old).faults (D.disk disk.new).faults (λ fault. IsErrOf result (FilesError.Failed fault)) }
     ensures causes { OnErr result (((fault : ℕ) × IsErrOf result (FilesError.Failed fault)) ⊎ ((file : ℕ) × (offset : ℕ) × IsErrOf result (FilesError.NotAFile file offset)) ⊎ IsErrOf result FilesError.NoMemory) }
 {
-    see_regions(alloc, disk, directory.regions(), generation_in(records) + 2)
+    see_regions(alloc, disk, directory.regions(), records.generation() + 2)
 }

@@ -12,13 +12,11 @@ use crate::error::FilesError;
 use crate::past::read_past;
 use crate::reading::ReadSite;
 use entry_index::EntryIndex;
+use global_defs::limits::NUMBERS_END;
 use gvn_key::Bytes;
 use mupip_recover::write_broken;
 use repl_disk::Disk;
 use std::alloc::Global;
-
-/// How many entries there are fewer than.
-const TOO_MANY: u64 = 1 << 40;
 
 /// What the records of a site stand for.
 #[derive(Drop)]
@@ -64,14 +62,14 @@ pub fn remember_all<D: Disk>(
     ensures broken { IfOk result (λ made. IfSome (D.disk disk.old).content (λ files. (u : Records) (seq : Sequence) → AreFound files read.now.log.records read.now.lowest (map (λ s. s.items) read.now.signs.items) entries u seq
         → made.broken ≡ texts.broken_text (site_name u.instance) (length seq) (texts.broken u (length seq)))) }
     ensures entries { IfOk result (λ made. made.entries ≡ entries) }
-    ensures few { IfOk result (λ made. entry_count entries < 2 ^ 40) }
+    ensures few { IfOk result (λ made. entry_count entries < NUMBERS_END) }
     ensures outside { (file offset : ℕ) → IsErrOf result (FilesError.NotAFile file offset) → IfSome (D.disk disk.old).content (λ files. (u : Records) (seq : Sequence) → AreFound files read.now.log.records read.now.lowest (map (λ s. s.items) read.now.signs.items) entries u seq → ⊥) }
     ensures reads { Reads (D.disk disk.old) (D.disk disk.new) }
     ensures faults { MayFail (D.disk disk.old).faults (D.disk disk.new).faults (λ fault. IsErrOf result (FilesError.Failed fault)) }
     ensures causes { OnErr result (((fault : ℕ) × IsErrOf result (FilesError.Failed fault)) ⊎ ((file : ℕ) × (offset : ℕ) × IsErrOf result (FilesError.NotAFile file offset)) ⊎ IsErrOf result FilesError.NoMemory) }
 {
     let length = entries.len();
-    if length >= TOO_MANY {
+    if length >= NUMBERS_END {
         return Err(FilesError::NoMemory);
     }
     let broken = broken_text(alloc, disk, read, length)?;

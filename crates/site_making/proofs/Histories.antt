@@ -2,6 +2,7 @@
 use Rattle.std.proofs.Common.{◌≡◌, ℕ, ◌≤◌, ◌<◌, length, Option, IfSome, sym, ◌∙◌, ap, subst}
 use Rattle.std.specs.Prelude.{filter, nat_le, List}
 use Rattle.std.specs.List.{AllByRecursion}
+use Rattle.global_defs.specs.declared.limits.TheConstants.{MOST_REGIONS}
 use Rattle.disk_defs.specs.Disk.{Files}
 use Rattle.disk_defs.proofs.Told.{weaker_told}
 use Rattle.global_defs.specs.Entry.{Reign, Sequence}
@@ -27,7 +28,7 @@ no_records o none = weaker_told o HoldNoSite (λ files. (c : Contents) → IsSit
     let count = region_count (files INSTANCE) c.instance (site_instance files c site) (made_some c site.made) in
     no site.records site.image.held
     (subst (λ (l : List InstanceRecord). 1 ≤ length (regions l)) own count.0)
-    (subst (λ (l : List InstanceRecord). length (regions l) ≤ 8) own count.1)
+    (subst (λ (l : List InstanceRecord). length (regions l) ≤ MOST_REGIONS) own count.1)
     (subst (λ (l : List InstanceRecord). AllByRecursion (λ (p : Pattern). p.region < length (regions l)) (patterns l)) own site.mapped))
 
 -- the reigns that begin by a length

@@ -8,6 +8,7 @@ use Rattle.std.proofs.lemmas.Bool.Decides.{nat_tests}
 use Rattle.std.proofs.lemmas.List.{length-replicate}
 use Rattle.std.proofs.lemmas.List.Elements.{filter_map-append}
 use Rattle.std.proofs.Math.Path.{fun_ext}
+use Rattle.global_defs.specs.declared.limits.TheConstants.{MOST_GENERATIONS, MOST_REGIONS}
 use Rattle.disk_defs.specs.Disk.{Files, View, Image, IsLawful, IsDurable, AtEachMoment, ReadsAfter}
 use Rattle.disk_defs.specs.Frames.{Only, OnlyOn, SameOutside, OthersStay}
 use Rattle.disk_defs.specs.Gates.{records}
@@ -20,7 +21,7 @@ use Rattle.global_defs.specs.Valid.{is_name}
 use Rattle.global_defs.specs.Pattern.{is_pattern, ends_in_star, stem}
 use Rattle.instance_file.specs.Instance.{StandsWith}
 use Rattle.journal_defs.specs.Numbers.{INSTANCE, journal_file, lost_file, broken_file, database_file}
-use Rattle.journal_defs.specs.Instance.{InstanceRecord, Create, Reigned, Cut, Map, Mode, IsInForm, NamedMode, generation, regions, site_name, pattern_record}
+use Rattle.journal_defs.specs.Instance.{InstanceRecord, Create, Reigned, Cut, Map, Mode, IsInForm, generation, regions, site_name, pattern_record}
 use Rattle.journal_defs.specs.Directory.{Pattern, pattern_in, patterns, region_of}
 use Rattle.journal_defs.specs.Broken.{broken, broken_text, parts_past}
 use Rattle.journal_defs.specs.Sequence.{Placed, Records}
@@ -42,12 +43,14 @@ use Rattle.entry_index.proofs.Thinning.{all_more as one_more}
 use Rattle.site_files.proofs.Keeping.{no_bytes}
 use Rattle.journal_laws.proofs.NewDisks.{few_nodes, no_cells}
 use Rattle.site_files.proofs.WhatIsRead.{instance_one}
+use Rattle.global_defs.proofs.Basics.{longer}
+use Rattle.global_defs.specs.Region.{Region}
 
 pub both_true : (a b : Bool) → a && b ≡ true → (a ≡ true) × (b ≡ true)
 both_true true b h = (refl, h)
 both_true false b h = absurd (cc h)
 
-pub pattern_form : (region : ℕ) (text : List ℕ) → region < 8 → is_pattern text ≡ true → IsInForm (pattern_record region text)
+pub pattern_form : (region : ℕ) (text : List ℕ) → region < MOST_REGIONS → is_pattern text ≡ true → IsInForm (pattern_record region text)
 pattern_form region text eight form =
     let both = both_true (is_name (stem text)) (nat_le (length (stem text)) 31) form in
     (eight, both.0, grind (arith, nat_tests, both.1))
@@ -72,13 +75,13 @@ no_losts files zero none = refl
 no_losts files (suc g) none = absurd (omega (arith, none))
 
 none_broken : (rs : List InstanceRecord) → broken (without_journals rs) 0 ≡ []
-none_broken rs = flat_none (λ (r : ℕ × NamedMode). map (λ p. record { region = r.1.name; part = p }) (parts_past rs 0 [])) (enumerate_from 0 (regions rs)) (λ r. refl)
+none_broken rs = flat_none (λ (r : ℕ × Region). map (λ p. record { region = r.1.name; part = p }) (parts_past rs 0 [])) (enumerate_from 0 (regions rs)) (λ r. refl)
 
 -- the files of the generations, none of which was drawn
 pub record AreUndrawn (m : ℕ) (files : Files) : Type 0 where
-  pub journals : (g r : ℕ) → 0 < g → g ≤ 65535 → r < m → records (files (journal_file g r)) ≡ Some []
-  pub lost : (g : ℕ) → 0 < g → g ≤ 65535 → files (lost_file g) ≡ []
-  pub texts : (g : ℕ) → 0 < g → g ≤ 65535 → files (broken_file g) ≡ []
+  pub journals : (g r : ℕ) → 0 < g → g ≤ MOST_GENERATIONS → r < m → records (files (journal_file g r)) ≡ Some []
+  pub lost : (g : ℕ) → 0 < g → g ≤ MOST_GENERATIONS → files (lost_file g) ≡ []
+  pub texts : (g : ℕ) → 0 < g → g ≤ MOST_GENERATIONS → files (broken_file g) ≡ []
 
 undrawn_same : (m : ℕ) (a b : Files) → ((f : ℕ) → f ≢ INSTANCE → b f ≡ a f) → AreUndrawn m a → AreUndrawn m b
 undrawn_same m a b same are = record {
@@ -200,7 +203,7 @@ module _ (files : Files) (c : Contents) (site : IsSite files c) (undrawn : gener
       clean : AreClean files (without_journals site.records.instance) (length c.sequence)
       clean = (subst (λ (s : Records). IsSoundImage files s c.sequence) records_are site.image).clean
 
-      by_first : (g : ℕ) → 0 < g → g ≤ 65535 → files (broken_file g) ≡ []
+      by_first : (g : ℕ) → 0 < g → g ≤ MOST_GENERATIONS → files (broken_file g) ≡ []
       by_first g low most = elim (cases_eq g (generation site.records.instance + 1)) [
         | inl e ↦ no_bytes (files (broken_file g))
             (let few = clean.first_broken g (omega (arith, low, zero_there), most) e in
@@ -209,11 +212,6 @@ module _ (files : Files) (c : Contents) (site : IsSite files c) (undrawn : gener
             omega (arith, few, none))
         | inr ne ↦ clean.later_broken g (omega (arith, low, zero_there), most) (omega (arith, low, zero_there, ne))
       ]
-
--- with the pattern
-longer : (rs : List InstanceRecord) (x : InstanceRecord) → 0 < length (rs ++ x ∷ [])
-longer [] x = omega arith
-longer (y ∷ rs) x = omega arith
 
 generation_more : (rs : List InstanceRecord) (region : ℕ) (star : Bool) (name : List ℕ) → generation (rs ++ Map region star name ∷ []) ≡ generation rs
 generation_more [] region star name = refl
@@ -236,7 +234,7 @@ module _ (rs : List InstanceRecord) (region : ℕ) (text : List ℕ) (inside : r
 
   mapped_more : AreMapped rs → AreMapped more
   mapped_more fits =
-      subst (λ (l : List NamedMode). AllByRecursion (λ (p : Pattern). p.region < length l) (patterns more)) (sym same_regions)
+      subst (λ (l : List Region). AllByRecursion (λ (p : Pattern). p.region < length l) (patterns more)) (sym same_regions)
       (subst (AllByRecursion (λ (p : Pattern). p.region < length (regions rs))) (sym (filter_map-append pattern_in rs (pattern_record region text ∷ [])))
       (one_more (λ (p : Pattern). p.region < length (regions rs)) (patterns rs) (record { region = region; star = ends_in_star text; name = stem text }) fits inside))
 
@@ -264,7 +262,7 @@ module _ (rs : List InstanceRecord) (region : ℕ) (text : List ℕ) (inside : r
 
     pub mapped_site : IsInstance (now INSTANCE) more → IsSite now (with_pattern region text c)
     mapped_site is = subst (λ (x : Contents). IsSite now (with_pattern region text x)) (sym plain_is)
-        (plain_site now more (longer rs (pattern_record region text)) (mapped_more fits_own) undrawn_more is (subst (λ (l : List NamedMode). AreUndrawn (length l) now) (sym same_regions) undrawn_now))
+        (plain_site now more (longer rs (pattern_record region text)) (mapped_more fits_own) undrawn_more is (subst (λ (l : List Region). AreUndrawn (length l) now) (sym same_regions) undrawn_now))
 
     pub either_site : StandsWith rs (pattern_record region text) (now INSTANCE) → IsSite now c ⊎ IsSite now (with_pattern region text c)
     either_site (inl is) = inl (unmapped_site is)

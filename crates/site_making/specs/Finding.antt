@@ -1,6 +1,7 @@
 -- What is found on a disk without opening its site.
-use Rattle.std.specs.Prelude.{◌≡◌, ◌≤◌, nat_le, IfSome, filter, length, Option}
+use Rattle.std.specs.Prelude.{◌≡◌, ◌≤◌, IfSome, length, Option}
 use Rattle.std.specs.Option.{option_map}
+use Rattle.global_defs.specs.declared.limits.TheConstants.{MOST_REGIONS}
 use Rattle.disk_defs.specs.Disk.{View, IsDurable, Files, Image, From}
 use Rattle.journal_defs.specs.Numbers.{INSTANCE}
 use Rattle.journal_defs.specs.Stands.{IsInstance}
@@ -8,6 +9,7 @@ use Rattle.journal_defs.specs.Instance.{regions}
 use Rattle.journal_defs.specs.Surviving.{reigns}
 use Rattle.journal_defs.specs.Sequence.{Records}
 use Rattle.global_defs.specs.Entry.{Sequence}
+use Rattle.global_defs.specs.Rising.{begun_by}
 use Rattle.gvn_model.specs.declared.history.History.{History}
 use Rattle.site_defs.specs.Contents.{Contents}
 use Rattle.site_store.specs.declared.layout.Layout.{Layout}
@@ -24,17 +26,17 @@ pub record IsFoundIn (v : View) (found : FoundSite) : Type 0 where
   pub told : IfSome v.content (λ files. IsInstance (files INSTANCE) found.log.records)
   pub durable : IfSome v.content (λ files. IsDurable v INSTANCE (files INSTANCE))
   pub layout : HasLayout found.log.records found.layout
-  pub few : length (regions found.log.records) ≤ 8
+  pub few : length (regions found.log.records) ≤ MOST_REGIONS
 
 -- the history of records that stand for a sequence: how many entries there are, and the reigns that begin by that number
 pub record IsHistory (s : Records) (seq : Sequence) (h : History) : Type 0 where
   pub count : h.length ≡ length seq
-  pub made_in : h.reigns ≡ filter (λ r. nat_le r.start (length seq)) (reigns s.instance)
+  pub made_in : h.reigns ≡ begun_by (length seq) (reigns s.instance)
 
 -- the history of a site: how many entries there are, and the reigns in which they were made
 pub record IsHistoryOf (c : Contents) (h : History) : Type 0 where
   pub count : h.length ≡ length c.sequence
-  pub made_in : h.reigns ≡ filter (λ r. nat_le r.start (length c.sequence)) (reigns c.instance)
+  pub made_in : h.reigns ≡ begun_by (length c.sequence) (reigns c.instance)
 
 -- an image from before the call, with other bytes perhaps, that stands for the same
 abbrev pub StandsAsBefore : View → Files → Type 0

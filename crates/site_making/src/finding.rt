@@ -53,7 +53,7 @@ pub fn find<D: Disk>(alloc: Global, disk: &mut D) -> Result<Option<FoundSite>, S
     ensures no_stop { (fault : ℕ) → IsErrOf result (SiteError.Stopped fault) → ⊥ }
 {
     let log = read_instance(alloc, disk)?;
-    let Some(layout) = layout_of(alloc, log.records.as_slice())? else {
+    let Some(layout) = layout_of(alloc, &log.records)? else {
         return Ok(None);
     };
     Ok(Some(FoundSite { layout, log }))

@@ -1,10 +1,10 @@
 //! Mapping names to the regions of a site.
-ghost use Rattle.std.specs.Prelude.{◌≡◌, ◌⊎◌, ◌↔◌, ◌≤◌, ◌<◌, ◌++◌, ◌∷◌, [], ℕ, true, length, map, IfSome, OnOk, OnErr, IsErrOf, IsSome, IsTrue};
+ghost use Rattle.std.specs.Prelude.{◌≡◌, ◌⊎◌, ◌↔◌, ◌≤◌, ◌<◌, ◌++◌, ◌∷◌, [], ℕ, true, length, IfSome, OnOk, OnErr, IsErrOf, IsSome, IsTrue};
+ghost use Rattle.global_defs.specs.declared.limits.TheConstants.{MOST_REGIONS};
 ghost use Rattle.disk_defs.specs.Disk.{Files, Image, IsDurable, AtEachMoment, MayFail};
 ghost use Rattle.disk_defs.specs.Frames.{Only, OnlyOn, OthersStay};
 ghost use Rattle.global_defs.specs.Pattern.{is_pattern};
 ghost use Rattle.instance_file.specs.Instance.{StandsWith};
-ghost use Rattle.instance_file.specs.Values.{record_value};
 ghost use Rattle.journal_defs.specs.Numbers.{INSTANCE};
 ghost use Rattle.journal_defs.specs.Instance.{IsInForm, generation, regions, pattern_record};
 ghost use Rattle.journal_defs.specs.Stands.{IsInstance};
@@ -15,22 +15,17 @@ ghost use Rattle.site_defs.specs.Outside.{IsNoInstance};
 ghost use Rattle.site_store.specs.Opening.{EachStands};
 ghost use Rattle.site_making.specs.Mapping.{MayHavePattern, TakesNoPattern};
 
-use instance_file::{Instance, InstanceLog, InstanceRecord};
+use instance_file::{Instance, InstanceLog, InstanceRecords};
 use repl_disk::Disk;
-use site_files::{generation_in, read_instance};
+use site_files::read_instance;
 use site_store::{SiteError, in_instance};
 use std::alloc::Global;
 
 /// Whether these records are those of a site with such a region, of which no generation was drawn.
-fn may_map(records: &[InstanceRecord], region: u8) -> bool
-    ensures { IsTrue result ↔ (region < length (regions (map record_value records.now))) × (generation (map record_value records.now) ≡ 0) }
+fn may_map(records: &InstanceRecords, region: u8) -> bool
+    ensures { IsTrue result ↔ (region < length (regions records.now)) × (generation records.now ≡ 0) }
 {
-    match records {
-        [InstanceRecord::Create { regions, .. }, ..] => {
-            (region as usize) < regions.len() && generation_in(records) == 0
-        }
-        _ => false,
-    }
+    usize::from(region) < records.region_count() && records.generation() == 0
 }
 
 /// Opens the instance file that was read, and appends the MAP.
@@ -89,7 +84,7 @@ pub fn map<D: Disk>(
     ensures causes { OnErr result (((fault : ℕ) × IsErrOf result (SiteError.Failed fault)) ⊎ ((file : ℕ) × (offset : ℕ) × IsErrOf result (SiteError.NotAFile file offset)) ⊎ IsErrOf result SiteError.NoMemory) }
 {
     let log = read_instance(alloc, disk)?;
-    if !may_map(log.records.as_slice(), region) {
+    if !may_map(&log.records, region) {
         return Err(SiteError::NotAFile { file: 0, offset: 0 });
     }
     append_pattern(alloc, disk, log, region, pattern)
@@ -110,7 +105,7 @@ pub fn map_logged<D: Disk>(
 ) -> Result<(), SiteError>
     requires form { is_pattern pattern.now ≡ true }
     requires region { region < length (regions log.records) }
-    requires few { length (regions log.records) ≤ 8 }
+    requires few { length (regions log.records) ≤ MOST_REGIONS }
     requires undrawn { generation log.records ≡ 0 }
     requires told { IfSome (D.disk disk.old).content (λ files. IsInstance (files INSTANCE) log.records) }
     requires durable { IfSome (D.disk disk.old).content (λ files. IsDurable (D.disk disk.old) INSTANCE (files INSTANCE)) }

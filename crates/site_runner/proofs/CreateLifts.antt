@@ -1,9 +1,10 @@
 -- CREATE in the world.
 use Rattle.std.proofs.Common.{◌≡◌, ℕ, ◌<◌, Bool, List, ◌++◌, length, set, take, None, Some, ◌∙◌}
 use Rattle.std.specs.Prelude.{codes, slice_get, Result, OnOk, OnErr}
+use Rattle.global_defs.specs.Region.{Region}
 use Rattle.disk_defs.specs.Disk.{View}
 use Rattle.site_defs.specs.Lists.{first_where}
-use Rattle.command_defs.specs.Commands.{Name, Region, Create}
+use Rattle.command_defs.specs.Commands.{Name, Create}
 use Rattle.world_defs.specs.World.{place_of, next_of}
 use Rattle.world_defs.specs.Answers.{Exists, NoDisk, line}
 use Rattle.world_defs.specs.Meaning.{apart, Acts, refusing, on_next}

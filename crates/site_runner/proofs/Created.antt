@@ -4,14 +4,14 @@ use Rattle.std.specs.Prelude.{Result, codes, IfSome, IsSome, IsSomeAnd, IsErrOf,
 use Rattle.std.specs.List.{list_all, AllByRecursion}
 use Rattle.std.specs.Char.{is_ascii_alphabetic, is_ascii_alphanumeric}
 use Rattle.std.proofs.lemmas.Bool.{false≢true, and_parts, leb-true}
-use Rattle.std.proofs.lemmas.List.{length-map}
 use Rattle.global_defs.specs.Fields.{IsSiteName}
+use Rattle.global_defs.specs.Region.{Region}
+use Rattle.gvn_model.specs.Regions.{named_region}
 use Rattle.disk_defs.specs.Disk.{Files, View, Image, IsLawful, AtEachMoment, Rose, MayFail}
 use Rattle.journal_defs.specs.Instance as records
-use Rattle.journal_defs.specs.Instance.{NamedMode, IsInForm, site_name}
-use Rattle.command_defs.specs.Commands.{Name, Region, Create, IsFormed}
+use Rattle.journal_defs.specs.Instance.{IsInForm, site_name}
+use Rattle.command_defs.specs.Commands.{Name, Create, IsFormed}
 use Rattle.command_defs.specs.Parts.{is_lettered, is_name}
-use Rattle.repl_script.specs.Commands as script
 use Rattle.site_store.specs.declared.layout.RegionSpec.{RegionSpec}
 use Rattle.site_store.specs.declared.layout.Layout.{Layout}
 use Rattle.site_store.specs.declared.error.SiteError.{SiteError}
@@ -28,7 +28,7 @@ use Rattle.world_defs.specs.Answers.{Answer, NotEmpty, Done, Refused, DiskFault,
 use Rattle.world_defs.specs.Row.{refused_with, caused, Here}
 use Rattle.world_defs.specs.Changes.{After, KeptUnknown}
 use Rattle.world_defs.specs.rows.Create as rows
-use Rattle.world_defs.specs.rows.Create.{named_mode, created, not_empty, CreateBy, create}
+use Rattle.world_defs.specs.rows.Create.{created, not_empty, CreateBy, create}
 use Rattle.world_defs.specs.Ties.{Matches}
 use Rattle.site_defs.specs.Stands.{IsBlank, IsSite, Stands, Reads}
 use Rattle.site_defs.specs.Behind.{StandsSo}
@@ -39,7 +39,7 @@ use Rattle.site_runner.specs.Sites.{IsOf, Down, disk_in}
 use Rattle.site_runner.specs.Tied.{IsPlace}
 use Rattle.site_runner.specs.Executes.{ExecutesHere, IsCutHere, Leaves, Comes}
 use Rattle.site_runner.specs.Looking.{fits, IsFoundBy, Finds, LooksHere, Tells}
-use Rattle.site_runner.specs.Creating.{spec_of, region_of, IsUnmade, MakesHere}
+use Rattle.site_runner.specs.Creating.{spec_of, IsUnmade, MakesHere}
 use Rattle.gvn_key.specs.declared.bytes.NoMemory as memory
 use Rattle.site_runner.specs.declared.ending.Ended.{Ended}
 use Rattle.site_runner.specs.declared.ending.Ended.TheVariants as ends
@@ -58,17 +58,13 @@ use Rattle.site_store.proofs.Unwritten.{some_and_read as some_and, some_read as 
 
 -- the regions of a command
 
-regions_same : (specs : List RegionSpec) → map store.region_value specs ≡ map named_mode (map region_of specs)
-regions_same [] = refl
-regions_same (r ∷ rs) = ap (λ (xs : List NamedMode). record { name = r.name; before = r.before } ∷ xs) (regions_same rs)
-
-made_is : (name : Name) (specs : List RegionSpec) → made name specs ≡ created name (map region_of specs)
-made_is name specs = ap (λ (xs : List NamedMode). record { instance = records.Create name xs ∷ []; starts = λ r. []; epochs = λ r. []; texts = []; losts = []; sequence = [] }) (regions_same specs)
+made_is : (name : Name) (specs : List RegionSpec) → made name specs ≡ created name (map store.region_value specs)
+made_is name specs = refl
 
 -- as a command's regions are
-pub regions_of : (rs : List (List ℕ × Bool)) → map region_of (map spec_of rs) ≡ map script.region_value rs
+pub regions_of : (rs : List (List ℕ × Bool)) → map store.region_value (map spec_of rs) ≡ map named_region rs
 regions_of [] = refl
-regions_of (r ∷ rs) = ap (λ (xs : List Region). script.region_value r ∷ xs) (regions_of rs)
+regions_of (r ∷ rs) = ap (λ (xs : List Region). named_region r ∷ xs) (regions_of rs)
 
 -- a name of the grammar is a site's
 is_site_name : (s : List ℕ) → is_name s ≡ true → IsSiteName s
@@ -79,15 +75,12 @@ is_site_name (b ∷ bs) h =
     let few = leb-true (length (b ∷ bs)) 15 p.1 in
     (q.0, q.1, omega arith)
 
-are_site_names : (specs : List RegionSpec) → list_all (λ (r : Region). is_name r.name) (map region_of specs) ≡ true → AllByRecursion (λ (r : NamedMode). IsSiteName r.name) (map store.region_value specs)
+are_site_names : (specs : List RegionSpec) → list_all (λ (r : Region). is_name r.name) (map store.region_value specs) ≡ true → AllByRecursion (λ (r : Region). IsSiteName r.name) (map store.region_value specs)
 are_site_names [] h = tt
-are_site_names (r ∷ rs) h = let p = and_parts (is_name r.name) (list_all (λ (x : Region). is_name x.name) (map region_of rs)) h in (is_site_name r.name p.0, are_site_names rs p.1)
+are_site_names (r ∷ rs) h = let p = and_parts (is_name r.name) (list_all (λ (x : Region). is_name x.name) (map store.region_value rs)) h in (is_site_name r.name p.0, are_site_names rs p.1)
 
-specs_length : (specs : List RegionSpec) → length (map store.region_value specs) ≡ length (map region_of specs)
-specs_length specs = length-map specs store.region_value ∙ sym (length-map specs region_of)
-
-pub specs_in_form : (name : Name) (specs : List RegionSpec) → IsFormed (Create name (map region_of specs)) → IsInForm (records.Create name (map store.region_value specs))
-specs_in_form name specs f = (is_site_name name f.0, omega (arith, f.2, specs_length specs), omega (arith, f.3, specs_length specs), are_site_names specs f.1)
+pub specs_in_form : (name : Name) (specs : List RegionSpec) → IsFormed (Create name (map store.region_value specs)) → IsInForm (records.Create name (map store.region_value specs))
+specs_in_form name specs f = (is_site_name name f.0, f.2, f.3, are_site_names specs f.1)
 
 -- the making of a site
 
@@ -125,11 +118,11 @@ made_site : {D : Type 0} (leftovers : Leftovers) (view : D → View) (d disk : D
     → IfSome (view d).content (λ files. IsBlank files → IfSome (view disk).content (λ new. IsSite new (made name specs)))
     → IfSome (view d).content (λ files. IsBlank files → ((f : Files) → Image (view d) f → IsBlank f) → (f : Files) → Image (view disk) f → IsSite f (made name specs))
     → (IsSome (view d).content → IsSome (view disk).content) → (view disk).simulated ≡ (view d).simulated → (view d).faults ≤ (view disk).faults → IfSome (view d).content HasNoRecord → now ≡ before ++ line name (codes "CREATED")
-    → MakesUp view name (map region_of specs) (Free d) (slots.Down disk name) before now true
+    → MakesUp view name (map store.region_value specs) (Free d) (slots.Down disk name) before now true
 made_site leftovers view d disk name specs before now reads images still same later empty t p h u =
     let v = view d in
     let w = view disk in
-    let regions = map region_of specs in
+    let regions = map store.region_value specs in
     let o : Contents = created name regions in
     let e : made name specs ≡ o = made_is name specs in
     let site : world.Site = record { name = name; state = world.Down } in
@@ -240,10 +233,10 @@ unwritten v w r (NotAFile file offset) is count cause other = other file offset 
 unwritten v w r NoMemory is count cause other = tt
 
 make_failed : {D : Type 0} (leftovers : Leftovers) (view : D → View) (d disk : D) (name : List ℕ) (specs : List RegionSpec) (e : SiteError) (before now : List ℕ) → IsMaking (view d) (view disk) name specs
-    → Unwritten e (view d) (view disk) → Tells e name before now → MakesUp view name (map region_of specs) (Free d) (Free disk) before now false
+    → Unwritten e (view d) (view disk) → Tells e name before now → MakesUp view name (map store.region_value specs) (Free d) (Free disk) before now false
 make_failed leftovers view d disk name specs (Failed fault) before now k f t p h u =
     let w = view disk in
-    let regions = map region_of specs in
+    let regions = map store.region_value specs in
     let o : Contents = created name regions in
     let m = making_left leftovers (view d) w p name specs regions k (made_is name specs) h.site h.disk u in
     let q : Place = record { site = p.site; told = p.told; now = m.now; left = m.left; outcomes = o ∷ p.outcomes; standings = making_standings o p.standings; shown = w.content; faults = w.faults; simulated = p.simulated } in
@@ -271,9 +264,9 @@ make_failed leftovers view d disk name specs (NotAFile file offset) before now k
 make_failed leftovers view d disk name specs NoMemory before now k f t p h u = absurd t
 
 make_cut : {D : Type 0} (leftovers : Leftovers) (view : D → View) (d disk : D) (name : List ℕ) (specs : List RegionSpec) → IsMaking (view d) (view disk) name specs
-    → MakingIsCut view name (map region_of specs) (Free d) (Free disk)
+    → MakingIsCut view name (map store.region_value specs) (Free d) (Free disk)
 make_cut leftovers view d disk name specs k p h u =
-    let regions = map region_of specs in
+    let regions = map store.region_value specs in
     let m = making_left leftovers (view d) (view disk) p name specs regions k (made_is name specs) h.site h.disk u in (
       record { site = p.site; told = p.told; now = m.now; left = m.left; outcomes = created name regions ∷ p.outcomes; standings = making_standings (created name regions) p.standings; shown = (view disk).content; faults = (view disk).faults; simulated = p.simulated },
       record {
@@ -295,9 +288,9 @@ makes_here view name regions old new (Err e) before now done cut p h u = cut p h
 -- it failed
 pub making_failed : {D : Type 0} (leftovers : Leftovers) (view : D → View) (d disk : D) (name n : List ℕ) (specs : List RegionSpec) (r : Result Unit SiteError) (e : SiteError) (ended : Result Ended memory.NoMemory) (before now : List ℕ) → IsMaking (view d) (view disk) name specs → r ≡ Err e
     → MayFail (view d).faults (view disk).faults (λ fault. IsErrOf r (Failed fault)) → ((file offset : ℕ) → IsErrOf r (NotAFile file offset) → ⊥) → n ≡ name → IfOk ended (λ x. (x ≡ Undone) × Tells e n before now)
-    → MakesHere view name (map region_of specs) (Free d) (Free disk, ended) before now
+    → MakesHere view name (map store.region_value specs) (Free d) (Free disk, ended) before now
 making_failed leftovers view d disk name n specs r e ended before now k is faults other same t =
-    makes_here view name (map region_of specs) (Free d) (Free disk) ended before now
+    makes_here view name (map store.region_value specs) (Free d) (Free disk) ended before now
     (on_not_done ended _ _ t (λ x. make_failed leftovers view d disk name specs e before now k (unwritten (view d) (view disk) r e is faults.count faults.cause other) (subst (λ (y : List ℕ). Tells e y before now) same x)))
     (err_so ended _ (make_cut leftovers view d disk name specs k))
 
@@ -305,10 +298,10 @@ making_failed leftovers view d disk name n specs r e ended before now k is fault
 pub making_done : {D : Type 0} (leftovers : Leftovers) (view : D → View) (d disk : D) (name n : List ℕ) (specs : List RegionSpec) (written : Result Unit memory.NoMemory) (ended : Result Ended memory.NoMemory) (before now : List ℕ) → IsMaking (view d) (view disk) name specs
     → IfSome (view d).content (λ files. IsBlank files → IfSome (view disk).content (λ new. IsSite new (made name specs)))
     → IfSome (view d).content (λ files. IsBlank files → ((f : Files) → Image (view d) f → IsBlank f) → (f : Files) → Image (view disk) f → IsSite f (made name specs)) → IfSome (view d).content HasNoRecord → n ≡ name
-    → OnOk written (now ≡ before ++ line n (codes "CREATED")) → OnOk written (ended ≡ Ok ends.Done) → OnErr written (IfOk ended (λ x. ⊥)) → MakesHere view name (map region_of specs) (Free d) (slots.Down disk name, ended) before now
+    → OnOk written (now ≡ before ++ line n (codes "CREATED")) → OnOk written (ended ≡ Ok ends.Done) → OnErr written (IfOk ended (λ x. ⊥)) → MakesHere view name (map store.region_value specs) (Free d) (slots.Down disk name, ended) before now
 making_done leftovers view d disk name n specs written ended before now k reads images empty same t is not =
-    makes_here view name (map region_of specs) (Free d) (slots.Down disk name) ended before now
-    (on_written written ended ends.Done _ (λ x. MakesUp view name (map region_of specs) (Free d) (slots.Down disk name) before now (is_done_at x)) t is not
+    makes_here view name (map store.region_value specs) (Free d) (slots.Down disk name) ended before now
+    (on_written written ended ends.Done _ (λ x. MakesUp view name (map store.region_value specs) (Free d) (slots.Down disk name) before now (is_done_at x)) t is not
     (λ e. made_site leftovers view d disk name specs before now reads images k.still_told k.simulated k.later empty (e ∙ ap (λ (y : List ℕ). before ++ line y (codes "CREATED")) same)))
     (err_so ended _ (make_cut leftovers view d disk name specs k))
 

@@ -7,12 +7,13 @@ use Rattle.std.proofs.lemmas.List.{length-map}
 use Rattle.std.proofs.Math.Seq.{take-length}
 use Rattle.disk_defs.specs.Disk.{Files, View}
 use Rattle.disk_defs.specs.Gates.{records}
-use Rattle.journal_defs.specs.Instance.{InstanceRecord, NamedMode, Create, regions, site_name}
+use Rattle.journal_defs.specs.Instance.{InstanceRecord, Create, regions, site_name}
 use Rattle.journal_defs.specs.Directory.{patterns}
 use Rattle.journal_defs.specs.Numbers.{INSTANCE}
 use Rattle.journal_defs.specs.Stands.{IsInstance}
 use Rattle.global_dir.specs.Directory.{is_mapped}
 use Rattle.global_defs.specs.Pattern.{ends_in_star, stem}
+use Rattle.global_defs.specs.Region.{Region}
 use Rattle.command_defs.specs.Commands.{Name}
 use Rattle.site_store.specs.declared.layout.Layout.{Layout}
 use Rattle.site_making.specs.declared.finding.FoundSite.{FoundSite}
@@ -77,7 +78,7 @@ layout_at w s p found f h sure = let here = some_both w.content _ _ (h.reads sur
 pub regions_found : (rs : List InstanceRecord) (found : Layout) → HasLayout rs found → map region_value (take found.directory.regions found.regions.items) ≡ regions rs
 regions_found rs found h =
     let items = found.regions.items in
-    let count : found.directory.regions ≡ length items = ap (λ m. m.regions) h.directory ∙ ap (λ (l : List NamedMode). length l) (sym h.regions) ∙ length-map items region_value in
+    let count : found.directory.regions ≡ length items = ap (λ m. m.regions) h.directory ∙ ap (λ (l : List Region). length l) (sym h.regions) ∙ length-map items region_value in
     ap (λ (n : ℕ). map region_value (take n items)) count ∙ ap (map region_value) (take-length items) ∙ h.regions
 
 pub number_found : (region : Name) (c : Contents) (found : Layout) (n : Option ℕ) → HasLayout c.instance found → n ≡ first_where (λ r. same_name r.name region) (map region_value (take found.directory.regions found.regions.items)) → region_number region c ≡ n

@@ -5,13 +5,13 @@ use Rattle.std.specs.List.{AllByRecursion}
 use Rattle.std.specs.Io.KnownBytes.{Appends}
 use Rattle.std.proofs.KnownBytes.{Appends-nil}
 use Rattle.std.proofs.lemmas.List.{map-append, append-nil}
+use Rattle.global_defs.specs.Beside.{Along}
 use Rattle.disk_defs.specs.Disk.{Files, View}
 use Rattle.command_defs.specs.Commands.{Command, IsFormed}
 use Rattle.command_defs.specs.Script.{Position, Outside, Ends, line_reading}
 use Rattle.repl_script.specs.Feeds.{Moves, Progress, TellsBad}
 use Rattle.repl_script.specs.declared.error.ScriptError.{ScriptError}
 use Rattle.repl_script.specs.declared.error.ScriptError.TheVariants as errors
-use Rattle.site_defs.specs.Lists.{Along}
 use Rattle.site_defs.specs.Stands.{Reads}
 use Rattle.world_defs.specs.World.{Place, World}
 use Rattle.world_defs.specs.Answers.{Answer}

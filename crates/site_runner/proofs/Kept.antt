@@ -6,8 +6,9 @@ use Rattle.std.proofs.lemmas.Bool.{cases_lt, false≢true}
 use Rattle.std.proofs.lemmas.Bool.Decides.{nat_tests}
 use Rattle.std.proofs.lemmas.List.{take_all, length-take-le}
 use Rattle.global_defs.specs.Entry.{Sequence}
+use Rattle.global_defs.specs.Region.{Region}
 use Rattle.journal_defs.specs.Journal.{Part}
-use Rattle.journal_defs.specs.Instance.{NamedMode, regions, site_name}
+use Rattle.journal_defs.specs.Instance.{regions, site_name}
 use Rattle.journal_defs.specs.Directory.{Pattern, patterns}
 use Rattle.journal_defs.specs.Broken.{BrokenPart, broken_text}
 use Rattle.site_defs.specs.Lists.{Among}
@@ -76,7 +77,7 @@ take_min k m xs few = elim (cases_lt k m) [
       ap (λ (n : ℕ). take n xs) same ∙ take_all m xs few ∙ sym (take_all k xs (omega (arith, few, more)))
 ]
 
-flat_same : (f g : ℕ → List Part) (i : ℕ) (rs : List NamedMode) → ((r : ℕ) → r < i + length rs → f r ≡ g r) → flat_map (named f) (enumerate_from i rs) ≡ flat_map (named g) (enumerate_from i rs)
+flat_same : (f g : ℕ → List Part) (i : ℕ) (rs : List Region) → ((r : ℕ) → r < i + length rs → f r ≡ g r) → flat_map (named f) (enumerate_from i rs) ≡ flat_map (named g) (enumerate_from i rs)
 flat_same f g i [] same = refl
 flat_same f g i (x ∷ rs) same =
     let here : named f (i, x) ≡ named g (i, x) = ap (λ (l : List Part). map (λ (p : Part). record { region = x.name; part = p }) l) (same i (omega arith)) in

@@ -2,9 +2,10 @@
 use Rattle.std.proofs.Common.{◌≡◌, ℕ, zero, suc, ◌<◌, ◌≤◌, Bool, true, false, cond, List, [], ◌∷◌, ◌++◌, length, get_or, take, set, swap, swap_remove, None, Some, refl, sym, ◌∙◌, ap, subst, arith, inl, length-set}
 use Rattle.std.proofs.Math.Seq.{get_or-append_seam, set-append_seam}
 use Rattle.std.specs.Prelude.{Option, option_map, slice_get, remove, insert, Result, Ok, Err, IfOk, OnOk, OnErr}
+use Rattle.global_defs.specs.Beside.{Along, At}
 use Rattle.disk_defs.specs.Disk.{View}
 use Rattle.site_defs.specs.Contents.{Contents, Standing}
-use Rattle.site_defs.specs.Lists.{Along, At, first_where}
+use Rattle.site_defs.specs.Lists.{first_where}
 use Rattle.command_defs.specs.Commands.{Name, Command}
 use Rattle.world_defs.specs.World.{Place, World, Kept, is_site_named, place_of}
 use Rattle.world_defs.specs.Answers.{NoSite, Refusal, Refused, refusal_line}

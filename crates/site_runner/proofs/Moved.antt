@@ -1,8 +1,8 @@
 -- Disks in slots, and the world that they are.
 use Rattle.std.proofs.Common.{◌≡◌, List, [], ◌∷◌, map, sym, subst, None}
 use Rattle.std.specs.List.{AllByRecursion}
+use Rattle.global_defs.specs.Beside.{Along}
 use Rattle.disk_defs.specs.Disk.{View}
-use Rattle.site_defs.specs.Lists.{Along}
 use Rattle.world_defs.specs.World.{Place, World, IsFresh}
 use Rattle.world_defs.specs.Ties.{Matches, AreDisks}
 use Rattle.site_runner.specs.declared.slot.Slot.{Slot}

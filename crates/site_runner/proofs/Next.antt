@@ -1,9 +1,11 @@
 -- The next slot without a site.
 use Rattle.std.proofs.Common.{◌≡◌, ℕ, zero, suc, ◌<◌, Bool, true, false, cond, List, [], ◌∷◌, length, take, None, Some, refl, sym, ◌∙◌, ap, arith}
 use Rattle.std.specs.Prelude.{Option, option_map, slice_get}
+use Rattle.global_defs.specs.declared.limits.TheConstants.{MOST_SITES}
+use Rattle.global_defs.specs.Beside.{Along}
 use Rattle.disk_defs.specs.Disk.{View}
-use Rattle.site_defs.specs.Lists.{Along, first_where}
-use Rattle.world_defs.specs.World.{Place, World, MOST_SITES, is_free, next_of}
+use Rattle.site_defs.specs.Lists.{first_where}
+use Rattle.world_defs.specs.World.{Place, World, is_free, next_of}
 use Rattle.site_runner.specs.declared.slot.Slot.{Slot}
 use Rattle.site_runner.specs.declared.slot.Slot.TheVariants.{Free, Down, Open, Failed}
 use Rattle.site_runner.specs.Sites.{is_slot_free}

@@ -3,6 +3,7 @@ use Rattle.std.proofs.Common.{◌≡◌, ◌≢◌, ℕ, ◌-◌, ◌≤◌, ◌
 use Rattle.std.specs.Prelude.{◌⊎◌, Option, codes, IfSome, Result, Ok, Err, OnOk, OnErr, IfOk, IsErrOf}
 use Rattle.std.specs.Fmt.{decimal}
 use Rattle.std.proofs.lemmas.Bool.{ne_eqb}
+use Rattle.global_defs.specs.declared.limits.TheConstants.{MOST_GENERATIONS}
 use Rattle.disk_defs.specs.Disk as disk
 use Rattle.disk_defs.specs.Disk.{Files, View, Rose, MayFail}
 use Rattle.journal_defs.specs.Numbers.{lost_file, broken_file}
@@ -38,10 +39,10 @@ texts_read false c left = c.texts ++ left.torn ∷ []
 
 -- what such a file has is what is typed of it
 abbrev pub TypingReads : Bool → Type 0
-TypingReads lost = (f : Files) (c : Contents) (left : Leftover) (g : ℕ) → IsSite f c → HasLeft f c left → 1 ≤ g → g ≤ 65535 → f (file_typed lost g) ≡ get_or (texts_read lost c left) (g - 1) []
+TypingReads lost = (f : Files) (c : Contents) (left : Leftover) (g : ℕ) → IsSite f c → HasLeft f c left → 1 ≤ g → g ≤ MOST_GENERATIONS → f (file_typed lost g) ≡ get_or (texts_read lost c left) (g - 1) []
 
-pub typing_of : (lost : Bool) → ((f : Files) (c : Contents) (left : Leftover) (g : ℕ) → IsSite f c → HasLeft f c left → 1 ≤ g → g ≤ 65535 → f (broken_file g) ≡ get_or (c.texts ++ left.torn ∷ []) (g - 1) [])
-    → ((f : Files) (c : Contents) (g : ℕ) → IsSite f c → 1 ≤ g → g ≤ 65535 → f (lost_file g) ≡ get_or c.losts (g - 1) []) → TypingReads lost
+pub typing_of : (lost : Bool) → ((f : Files) (c : Contents) (left : Leftover) (g : ℕ) → IsSite f c → HasLeft f c left → 1 ≤ g → g ≤ MOST_GENERATIONS → f (broken_file g) ≡ get_or (c.texts ++ left.torn ∷ []) (g - 1) [])
+    → ((f : Files) (c : Contents) (g : ℕ) → IsSite f c → 1 ≤ g → g ≤ MOST_GENERATIONS → f (lost_file g) ≡ get_or c.losts (g - 1) []) → TypingReads lost
 typing_of true broken lost = λ f c left g site is some most. lost f c g site some most
 typing_of false broken lost = broken
 
@@ -49,7 +50,7 @@ typed_is : (lost : Bool) (g : ℕ) (p : Place) → get_or (texts_read lost p.now
 typed_is true g p = refl
 typed_is false g p = refl
 
-typed_here : (lost : Bool) (typing : TypingReads lost) (g : ℕ) (v : View) (s : Site) (p : Place) (old bytes : List ℕ) → IsAt v s p → 1 ≤ g → g ≤ 65535 → old ≡ [] → IfSome v.content (λ files. bytes ≡ old ++ files (file_typed lost g)) → p.told ≡ true → bytes ≡ typed lost g p
+typed_here : (lost : Bool) (typing : TypingReads lost) (g : ℕ) (v : View) (s : Site) (p : Place) (old bytes : List ℕ) → IsAt v s p → 1 ≤ g → g ≤ MOST_GENERATIONS → old ≡ [] → IfSome v.content (λ files. bytes ≡ old ++ files (file_typed lost g)) → p.told ≡ true → bytes ≡ typed lost g p
 typed_here lost typing g v s p old bytes h some most none text sure =
     let here = some_both v.content _ _ (h.disk.told sure) text in
     let site = reads_site here.0 p.now p.left (h.held.made sure).now.made here.1 in
@@ -70,7 +71,7 @@ has_file lost g p (inl sure) f =
 has_file lost g p (inr unsure) f = ap (λ (b : Bool). if b then (if length (typed lost g p) == 0 then Some NoFile else None) else None) unsure
 
 -- there is no such file
-pub print_none : (lost : Bool) (typing : TypingReads lost) (g : ℕ) (v w : View) (s : Site) (old bytes before now : List ℕ) → disk.Reads v w → v.faults ≤ w.faults → stopped (state_value s.state) ≡ None → 1 ≤ g → g ≤ 65535 → old ≡ []
+pub print_none : (lost : Bool) (typing : TypingReads lost) (g : ℕ) (v w : View) (s : Site) (old bytes before now : List ℕ) → disk.Reads v w → v.faults ≤ w.faults → stopped (state_value s.state) ≡ None → 1 ≤ g → g ≤ MOST_GENERATIONS → old ≡ []
     → IfSome v.content (λ files. bytes ≡ old ++ files (file_typed lost g)) → bytes ≡ [] → now ≡ before ++ line s.name (codes "NOFILE") → ExecutesAt (print lost g s.name) v s w s before now false
 print_none lost typing g v w s old bytes before now r later up some most none text empty t p h = elim (is_true_or_false p.told) [
   | inl sure ↦ comes_refused no (counted p w.faults)
@@ -89,7 +90,7 @@ print_none lost typing g v w s old bytes before now r later up some most none te
     faults = omega (arith, later, h.disk.faults)
 
 -- the bytes of the file
-pub printed : (lost : Bool) (typing : TypingReads lost) (g : ℕ) (v w : View) (s : Site) (old bytes before now : List ℕ) → disk.Reads v w → v.faults ≤ w.faults → stopped (state_value s.state) ≡ None → 1 ≤ g → g ≤ 65535 → old ≡ []
+pub printed : (lost : Bool) (typing : TypingReads lost) (g : ℕ) (v w : View) (s : Site) (old bytes before now : List ℕ) → disk.Reads v w → v.faults ≤ w.faults → stopped (state_value s.state) ≡ None → 1 ≤ g → g ≤ MOST_GENERATIONS → old ≡ []
     → IfSome v.content (λ files. bytes ≡ old ++ files (file_typed lost g)) → bytes ≢ [] → now ≡ before ++ bytes → ExecutesAt (print lost g s.name) v s w s before now false
 printed lost typing g v w s old bytes before now r later up some most none text full t p h =
     let typed_so : p.told ≡ true → bytes ≡ typed lost g p = λ sure. typed_here lost typing g v s p old bytes h some most none text sure in
@@ -112,13 +113,13 @@ pub text_of : (lost : Bool) (g file : ℕ) (o : Option Files) (old bytes : List 
 text_of lost g file o old bytes e h = subst (λ (n : ℕ). IfSome o (λ files. bytes ≡ old ++ files n)) e h
 
 -- what was read of the file, or that a call failed
-shown : (lost : Bool) (typing : TypingReads lost) (g : ℕ) (v w : View) (s : Site) (old bytes before now : List ℕ) → disk.Reads v w → v.faults ≤ w.faults → stopped (state_value s.state) ≡ None → 1 ≤ g → g ≤ 65535 → old ≡ []
+shown : (lost : Bool) (typing : TypingReads lost) (g : ℕ) (v w : View) (s : Site) (old bytes before now : List ℕ) → disk.Reads v w → v.faults ≤ w.faults → stopped (state_value s.state) ≡ None → 1 ≤ g → g ≤ MOST_GENERATIONS → old ≡ []
     → IfSome v.content (λ files. bytes ≡ old ++ files (file_typed lost g)) → ShowsBytes bytes s.name before now → ExecutesAt (print lost g s.name) v s w s before now false
 shown lost typing g v w s old [] before now r later up some most none text shows = print_none lost typing g v w s old [] before now r later up some most none text refl shows
 shown lost typing g v w s old (b ∷ bytes) before now r later up some most none text shows = printed lost typing g v w s old (b ∷ bytes) before now r later up some most none text (λ e. cc) shows
 
 pub prints : {T E : Type 0} (lost : Bool) (typing : TypingReads lost) (g : ℕ) (v w : View) (s : Site) (after : Ended → Site) (old bytes before now : List ℕ) (read : Result T SiteError) (result : Result Ended E) → disk.Reads v w → MayFail v.faults w.faults (λ fault. IsErrOf read (errors.Failed fault))
-    → stopped (state_value s.state) ≡ None → 1 ≤ g → g ≤ 65535 → old ≡ [] → after ends.Undone ≡ s → ((k : ℕ) → after (ends.Failed k) ≡ record { name = s.name; state = Failed k })
+    → stopped (state_value s.state) ≡ None → 1 ≤ g → g ≤ MOST_GENERATIONS → old ≡ [] → after ends.Undone ≡ s → ((k : ℕ) → after (ends.Failed k) ≡ record { name = s.name; state = Failed k })
     → OnOk read (IfSome v.content (λ files. bytes ≡ old ++ files (file_typed lost g))) → OnOk read (IfOk result (λ ended. (ended ≡ ends.Undone) × ShowsBytes bytes s.name before now))
     → OnErr read (IfOk result (λ ended. (fault : ℕ) × IsErrOf read (errors.Failed fault) × (ended ≡ ends.Failed fault) × (now ≡ before ++ fault_line s.name fault)))
     → IfOk result (λ ended. ExecutesAt (print lost g s.name) v s w (after ended) before now (is_done_at ended))

@@ -6,9 +6,10 @@ use Rattle.std.proofs.lemmas.List.Sums.{fold-append}
 use Rattle.std.proofs.lemmas.Option.{slice_get-get_or, slice_get_within}
 use Rattle.std.proofs.Math.Seq.{get_or-append_seam, take-append_seam, take-append-add, take-length}
 use Rattle.std.proofs.lemmas.Bool.{lt-ltb, cases_lt}
+use Rattle.global_defs.specs.declared.limits.TheConstants.{MOST_LINES}
 use Rattle.command_defs.specs.Commands.{Command}
 use Rattle.command_defs.specs.Sections.{Section}
-use Rattle.command_defs.specs.Script.{Position, Outside, Within, Reading, Skips, Wrong, Goes, Ends, Lines, line_reading, gone_on, then_line, lines_reading, MOST_LINES, IsScript, IsBadAt, in_line, behind_all}
+use Rattle.command_defs.specs.Script.{Position, Outside, Within, Reading, Skips, Wrong, Goes, Ends, Lines, line_reading, gone_on, then_line, lines_reading, IsScript, IsBadAt, in_line, behind_all}
 use Rattle.repl_script.specs.Feeds.{Moves}
 use Rattle.site_runner.specs.Ends.{ComeTo, IsTooLong}
 use Rattle.site_runner.specs.Going.{Leads}

@@ -7,8 +7,9 @@ use Rattle.std.proofs.lemmas.Bool.{false≢true}
 use Rattle.disk_defs.specs.Disk.{Files, View, Image, IsLawful, AtEachMoment, Rose}
 use Rattle.disk_defs.proofs.Told.{both_weak}
 use Rattle.global_defs.specs.Entry.{Sequence}
+use Rattle.global_defs.specs.Region.{Region}
 use Rattle.journal_defs.specs.Numbers.{INSTANCE}
-use Rattle.journal_defs.specs.Instance.{InstanceRecord, NamedMode, generation, regions}
+use Rattle.journal_defs.specs.Instance.{InstanceRecord, generation, regions}
 use Rattle.journal_defs.specs.Sequence.{Records, IsSequence}
 use Rattle.journal_defs.specs.Stands.{IsInstance, AreRecords}
 use Rattle.command_defs.specs.Commands.{Name}
@@ -72,7 +73,7 @@ found_so command need region v w rs content needs is =
 region_of : (found : Layout) (rs : List InstanceRecord) (u : Records) (files : Files) (region : ℕ) (o : Option RegionSpec) → HasLayout rs found → IsInstance (files INSTANCE) rs → AreRecords files u → slice_get found.regions.items region ≡ o
     → slice_get (regions u.instance) region ≡ option_map region_value o
 region_of found rs u files region o layout is held e =
-    ap (λ (l : List NamedMode). slice_get l region) (ap regions (instance_one (files INSTANCE) u.instance rs held.instance is) ∙ sym layout.regions)
+    ap (λ (l : List Region). slice_get l region) (ap regions (instance_one (files INSTANCE) u.instance rs held.instance is) ∙ sym layout.regions)
     ∙ at_map region_value found.regions.items region ∙ ap (option_map region_value) e
 
 outside_found : (command : Refusable) (need : Needing) (region : ℕ) (found : Layout) (rs : List InstanceRecord) (files : Files) → HasLayout rs found → slice_get found.regions.items region ≡ None → FoundSo command need region rs files → ⊥

@@ -1,8 +1,9 @@
 -- What CREATE means at the next disk's place.
 use Rattle.std.specs.Prelude.{◌≡◌, ℕ, Bool, false, List, Result, IsTrue}
+use Rattle.global_defs.specs.Region.{Region}
 use Rattle.disk_defs.specs.Disk.{View}
 use Rattle.site_store.specs.declared.layout.RegionSpec.{RegionSpec}
-use Rattle.command_defs.specs.Commands.{Name, Region}
+use Rattle.command_defs.specs.Commands.{Name}
 use Rattle.site_defs.specs.Lists.{Among}
 use Rattle.site_defs.specs.Contents.{Contents, is_made}
 use Rattle.world_defs.specs.World.{Place}
@@ -16,10 +17,6 @@ use Rattle.site_runner.specs.Tied.{IsPlace}
 -- a region of a command, as a site is made with it
 abbrev pub spec_of : List ℕ × Bool → RegionSpec
 spec_of r = record { name = r.0; before = r.1 }
-
--- and that region of the command
-abbrev pub region_of : RegionSpec → Region
-region_of r = record { name = r.name; before = r.before }
 
 -- no site was made there, whatever a crash leaves
 pub record IsUnmade (p : Place) : Type 0 where

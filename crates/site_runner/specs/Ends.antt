@@ -2,9 +2,10 @@
 use Rattle.std.specs.Prelude.{◌≡◌, ◌≢◌, ◌⊎◌, ℕ, ◌+◌, ◌<◌, ◌≤◌, List, [], ◌∷◌, ◌++◌, length, take, Option, Some, None, slice_get}
 use Rattle.std.specs.List.{AllByRecursion}
 use Rattle.std.specs.Io.KnownBytes.{Appends, Consumes, IsAtEnd}
+use Rattle.global_defs.specs.declared.limits.TheConstants.{MOST_LINES}
 use Rattle.command_defs.specs.Commands.{Command, IsFormed}
 use Rattle.command_defs.specs.Lines.{lines_of, ended}
-use Rattle.command_defs.specs.Script.{Position, Outside, Ends, line_reading, lines_reading, MOST_LINES, IsScript, IsBadAt}
+use Rattle.command_defs.specs.Script.{Position, Outside, Ends, line_reading, lines_reading, IsScript, IsBadAt}
 use Rattle.world_defs.specs.World.{World}
 use Rattle.world_defs.specs.Step.{Step, CutOff}
 use Rattle.world_defs.specs.Runs.{Told, Runs, commands}

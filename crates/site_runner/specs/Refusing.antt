@@ -1,5 +1,6 @@
 -- What refusing a command for a region means at the place of a site that is down, on whose disk nothing was written.
 use Rattle.std.specs.Prelude.{◌≡◌, ◌≤◌, ◌<◌, ◌-◌, ◌++◌, min, ℕ, Bool, false, List, length, Option, None, Some, IsTrue, IfSome, IsSomeAnd}
+use Rattle.site_defs.specs.Limits.{LAST_GENERATION}
 use Rattle.disk_defs.specs.Disk.{Files, View, Image}
 use Rattle.global_defs.specs.Entry.{Sequence}
 use Rattle.journal_defs.specs.Instance.{generation}
@@ -73,7 +74,7 @@ IsTold Opening g = Unit {0}
 -- a generation is left, and the region of that number is the first that needs forward recovery for the command
 abbrev pub NeedsForward : Refusable → Needing → (region : ℕ) → Files → Type 0
 NeedsForward command needing region files =
-    (u : Records) × (seq : Sequence) × AreRecords files u × IsSequence u seq × (generation u.instance < 65534) × (g : ℕ) × IsFirstWithout u (target_of command (length seq)) region g × IsTold needing g
+    (u : Records) × (seq : Sequence) × AreRecords files u × IsSequence u seq × (generation u.instance < LAST_GENERATION) × (g : ℕ) × IsFirstWithout u (target_of command (length seq)) region g × IsTold needing g
 
 -- why it's refused, with the region's name
 abbrev pub cause_of : Needing → Name → Cause

@@ -1,7 +1,7 @@
 -- What ties the runner's slots to a world.
 use Rattle.std.specs.Prelude.{◌≡◌, List, option_map}
+use Rattle.global_defs.specs.Beside.{Along}
 use Rattle.disk_defs.specs.Disk.{View}
-use Rattle.site_defs.specs.Lists.{Along}
 use Rattle.world_defs.specs.World.{Place, World}
 use Rattle.world_defs.specs.Ties.{Matches}
 use Rattle.site_runner.specs.declared.slot.Slot.{Slot}

@@ -1,14 +1,15 @@
 // CREATE.
 ghost use Rattle.std.specs.Prelude.{◌≡◌, length, map, [], None, Some, OnOk, OnErr, IfOk, IfSome};
+ghost use Rattle.site_store.specs.Opening.{region_value};
+ghost use Rattle.gvn_model.specs.Regions.{named_region};
 ghost use Rattle.disk_defs.specs.Gates.{records};
 ghost use Rattle.journal_defs.specs.Numbers.{INSTANCE};
 ghost use Rattle.site_defs.specs.Lists.{first_where};
 ghost use Rattle.command_defs.specs.Commands as commands;
 ghost use Rattle.command_defs.specs.Commands.{IsFormed};
-ghost use Rattle.repl_script.specs.Commands.{region_value};
 ghost use Rattle.world_defs.specs.rows.Create as rows;
 ghost use Rattle.site_runner.specs.Executes.{Leaves, Executes, IsCutOff};
-ghost use Rattle.site_runner.specs.Creating.{spec_of, region_of, MakesHere};
+ghost use Rattle.site_runner.specs.Creating.{spec_of, MakesHere};
 ghost use Rattle.site_runner.specs.Sites.{is_slot_named, IsReadySlot, AreReady};
 
 use super::answering::refuse;
@@ -47,10 +48,10 @@ fn make<D: Disk>(
     regions: &[RegionSpec],
     text: &mut Bytes,
 ) -> (Slot<D>, Result<Ended, NoMemory>)
-    requires formed { IsFormed (commands.Create name (map region_of regions.now)) }
+    requires formed { IsFormed (commands.Create name (map region_value regions.now)) }
     requires empty { IfSome (D.disk disk).content (λ files. records (files INSTANCE) ≡ Some []) }
     ensures ready { OnOk result.1 (IsReadySlot D.disk result.0) }
-    ensures left { MakesHere D.disk name (map region_of regions.now) (Slot.Free disk) result text.old text.new }
+    ensures left { MakesHere D.disk name (map region_value regions.now) (Slot.Free disk) result text.old text.new }
 {
     leftovers_hold();
     match Site::create(alloc, &mut disk, &name, regions) {
@@ -73,9 +74,9 @@ fn create_at<D: Disk>(
     regions: &NamedModes,
     text: &mut Bytes,
 ) -> (Slot<D>, Result<Ended, NoMemory>)
-    requires { IsFormed (commands.Create name (map region_value regions.now)) }
+    requires { IsFormed (commands.Create name (map named_region regions.now)) }
     ensures ready { OnOk result.1 (IsReadySlot D.disk result.0) }
-    ensures left { Leaves D.disk (rows.create (map region_value regions.now) name) (Slot.Free disk) result text.old text.new }
+    ensures left { Leaves D.disk (rows.create (map named_region regions.now) name) (Slot.Free disk) result text.old text.new }
 {
     match look(alloc, &mut disk) {
         Err(error) => {
@@ -101,12 +102,12 @@ fn create_new<D: Disk>(
     regions: &NamedModes,
     text: &mut Bytes,
 ) -> Result<Ended, NoMemory>
-    requires formed { IsFormed (commands.Create name (map region_value regions.now)) }
+    requires formed { IsFormed (commands.Create name (map named_region regions.now)) }
     requires none { first_where (is_slot_named name) slots.old.items ≡ None }
     requires ready { AreReady D.disk slots.old.items }
     ensures ready { OnOk result (AreReady D.disk slots.new.items) }
-    ensures done { OnOk result (Executes D.disk (commands.Create name (map region_value regions.now)) slots.old.items slots.new.items text.old text.new) }
-    ensures cut_off { OnErr result (IsCutOff D.disk (commands.Create name (map region_value regions.now)) slots.old.items slots.new.items) }
+    ensures done { OnOk result (Executes D.disk (commands.Create name (map named_region regions.now)) slots.old.items slots.new.items text.old text.new) }
+    ensures cut_off { OnErr result (IsCutOff D.disk (commands.Create name (map named_region regions.now)) slots.old.items slots.new.items) }
     ensures length { length slots.new.items ≡ length slots.old.items }
 {
     match take_free(slots) {
@@ -127,11 +128,11 @@ pub fn create<D: Disk>(
     regions: NamedModes,
     text: &mut Bytes,
 ) -> Result<Ended, NoMemory>
-    requires formed { IsFormed (commands.Create name (map region_value regions)) }
+    requires formed { IsFormed (commands.Create name (map named_region regions)) }
     requires ready { AreReady D.disk slots.old.items }
     ensures ready { OnOk result (AreReady D.disk slots.new.items) }
-    ensures done { OnOk result (Executes D.disk (commands.Create name (map region_value regions)) slots.old.items slots.new.items text.old text.new) }
-    ensures cut_off { OnErr result (IsCutOff D.disk (commands.Create name (map region_value regions)) slots.old.items slots.new.items) }
+    ensures done { OnOk result (Executes D.disk (commands.Create name (map named_region regions)) slots.old.items slots.new.items text.old text.new) }
+    ensures cut_off { OnErr result (IsCutOff D.disk (commands.Create name (map named_region regions)) slots.old.items slots.new.items) }
     ensures length { length slots.new.items ≡ length slots.old.items }
 {
     match find(slots, name.as_slice()) {

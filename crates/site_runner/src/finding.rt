@@ -4,10 +4,8 @@ ghost use Rattle.site_defs.specs.Lists.{first_where};
 ghost use Rattle.site_runner.specs.Sites.{is_slot_named, is_slot_free};
 
 use super::slot::Slot;
+use global_defs::limits::MOST_SITES;
 use repl_disk::Disk;
-
-/// How many sites there may be.
-const MOST_SITES: usize = 8;
 
 fn is_named<D: Disk>(slot: &Slot<D>, name: &[u8]) -> bool
     ensures { result ≡ is_slot_named name.now slot.now }

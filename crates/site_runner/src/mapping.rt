@@ -1,5 +1,6 @@
 // MAP.
 ghost use Rattle.std.specs.Prelude.{◌≡◌, ◌<◌, ◌≤◌, take, map, length, IfSome, IfOk, OnOk, OnErr, true, Some, None};
+ghost use Rattle.global_defs.specs.declared.limits.TheConstants.{MOST_REGIONS};
 ghost use Rattle.disk_defs.specs.Disk.{IsDurable};
 ghost use Rattle.global_defs.specs.Pattern.{is_pattern};
 ghost use Rattle.journal_defs.specs.Numbers.{INSTANCE};
@@ -70,7 +71,7 @@ fn map_there<D: Disk>(
     requires free { IfSome (D.disk disk.old).content (λ files. (c : Contents) → IsSite files c → IsUnmappedIn region.now number pattern.now c) }
     requires named { (c : Contents) × (region_number region.now c ≡ Some number) }
     requires inside { number < length (regions log.records) }
-    requires few { length (regions log.records) ≤ 8 }
+    requires few { length (regions log.records) ≤ MOST_REGIONS }
     requires undrawn { generation log.records ≡ 0 }
     requires called { site_name log.records ≡ name.now }
     requires unmapped { unmapped_by region.now pattern.now log.records ≡ None }

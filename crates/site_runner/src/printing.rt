@@ -1,5 +1,6 @@
 // TYPE.
 ghost use Rattle.std.specs.Prelude.{◌≡◌, ◌≤◌, ◌++◌, ℕ, IfOk, OnOk, OnErr, IsErrOf};
+ghost use Rattle.global_defs.specs.declared.limits.TheConstants.{MOST_GENERATIONS};
 ghost use Rattle.world_defs.specs.Answers.{fault_line};
 ghost use Rattle.world_defs.specs.Meaning.{row_at};
 ghost use Rattle.world_defs.specs.rows.Print as rows;
@@ -16,20 +17,15 @@ use super::cause::Cause;
 use super::ending::{Ended, closed, opened};
 use super::slot::Slot;
 use gvn_key::{Bytes, NoMemory};
+use journal_defs::files::{BROKEN_FILES, LOST_FILES};
 use repl_disk::Disk;
 use repl_section::Reign;
 use site_store::{SiteError, read_file};
 use world_laws::leftovers::typing_reads_files;
 
-/// The lost-transaction file of a generation has the number that is so much greater.
-const LOST_FILES: u32 = 1_000_000;
-
-/// And so has its broken-transaction file.
-const BROKEN_FILES: u32 = 2_000_000;
-
 /// The number of the lost-transaction or the broken-transaction file of a generation.
 fn typed_file(lost: bool, generation: u32) -> u32
-    requires { generation ≤ 65535 }
+    requires { generation ≤ MOST_GENERATIONS }
     ensures { result ≡ file_typed lost generation }
 {
     if lost {
@@ -71,7 +67,7 @@ fn print_disk<D: Disk>(
     text: &mut Bytes,
 ) -> Result<Ended, NoMemory>
     requires some { 1 ≤ generation }
-    requires most { generation ≤ 65535 }
+    requires most { generation ≤ MOST_GENERATIONS }
     ensures done { IfOk result (λ ended. ExecutesAt (rows.print lost generation name.now) (D.disk disk.old) (down name.now) (D.disk disk.new) (down_after name.now ended) text.old text.new (is_done_at ended)) }
     ensures cut_off { OnErr result (IsCutAt (rows.print lost generation name.now) (D.disk disk.old) (down name.now) (D.disk disk.new)) }
 {
@@ -91,7 +87,7 @@ pub fn print_down<D: Disk>(
     text: &mut Bytes,
 ) -> (Slot<D>, Result<Ended, NoMemory>)
     requires some { 1 ≤ generation }
-    requires most { generation ≤ 65535 }
+    requires most { generation ≤ MOST_GENERATIONS }
     ensures ready { OnOk result.1 (IsReadySlot D.disk result.0) }
     ensures left { Leaves D.disk (row_at (rows.print lost generation)) (Slot.Down disk name) result text.old text.new }
 {
@@ -109,7 +105,7 @@ fn print_site<D: Disk>(
 ) -> Result<Ended, NoMemory>
     requires ready { IsReadyOpen D.disk reign.old }
     requires some { 1 ≤ generation }
-    requires most { generation ≤ 65535 }
+    requires most { generation ≤ MOST_GENERATIONS }
     ensures ready { IfOk result (StaysReady D.disk reign.new) }
     ensures done { IfOk result (λ ended. ExecutesAt (rows.print lost generation name.now) (D.disk (disk_of reign.old.site)) (primary name.now reign.old) (D.disk (disk_of reign.new.site)) (primary_after name.now reign.new ended) text.old text.new (is_done_at ended)) }
     ensures cut_off { OnErr result (IsCutAt (rows.print lost generation name.now) (D.disk (disk_of reign.old.site)) (primary name.now reign.old) (D.disk (disk_of reign.new.site))) }
@@ -133,7 +129,7 @@ pub fn print_open<D: Disk>(
 ) -> (Slot<D>, Result<Ended, NoMemory>)
     requires ready { IsReadyOpen D.disk reign.value }
     requires some { 1 ≤ generation }
-    requires most { generation ≤ 65535 }
+    requires most { generation ≤ MOST_GENERATIONS }
     ensures ready { OnOk result.1 (IsReadySlot D.disk result.0) }
     ensures left { Leaves D.disk (row_at (rows.print lost generation)) (Slot.Open reign name) result text.old text.new }
 {

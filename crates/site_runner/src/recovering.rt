@@ -1,5 +1,6 @@
 // RECOVER, backward and forward.
 ghost use Rattle.std.specs.Prelude.{◌≡◌, ◌≤◌, ℕ, false, List, length, IfOk, IfSome, OnOk, OnErr, IsErrOf, IsSome};
+ghost use Rattle.site_defs.specs.Limits.{LAST_GENERATION};
 ghost use Rattle.disk_defs.specs.Disk.{AtEachMoment, MayFail};
 ghost use Rattle.journal_defs.specs.Numbers.{INSTANCE};
 ghost use Rattle.journal_defs.specs.Instance.{InstanceRecord, generation};
@@ -37,8 +38,8 @@ fn recover_on<D: Disk>(alloc: Global, disk: &mut D, anew: bool) -> Result<u64, R
     ensures read { IfOk result (λ n. (c : Contents) × (n ≡ length c.sequence)) }
     ensures told { IfOk result (λ _. IfSome (D.disk disk.old).content (λ files. (c : Contents) (left : Leftover) → IsSite files c → HasLeft files c left → EachStands (D.disk disk.old) → StandsFor (D.disk disk.new) (recovered_as anew left.broken c))) }
     ensures held { IfOk result (λ n. IfSome (D.disk disk.old).content (IsHeldFor anew n)) }
-    ensures limit { IsErrOf result RollError.GenLimit → IfSome (D.disk disk.old).content (λ files. (rs : List InstanceRecord) → IsInstance (files INSTANCE) rs → 65534 ≤ generation rs) }
-    ensures limit_told { IsErrOf result RollError.GenLimit → IfSome (D.disk disk.old).content (λ files. (rs : List InstanceRecord) × IsInstance (files INSTANCE) rs × (65534 ≤ generation rs)) }
+    ensures limit { IsErrOf result RollError.GenLimit → IfSome (D.disk disk.old).content (λ files. (rs : List InstanceRecord) → IsInstance (files INSTANCE) rs → LAST_GENERATION ≤ generation rs) }
+    ensures limit_told { IsErrOf result RollError.GenLimit → IfSome (D.disk disk.old).content (λ files. (rs : List InstanceRecord) × IsInstance (files INSTANCE) rs × (LAST_GENERATION ≤ generation rs)) }
     ensures unwritten { IsErrOf result RollError.GenLimit → IsUnwritten (D.disk disk.old) (D.disk disk.new) }
     ensures backward { (region : ℕ) → IsErrOf result (RollError.NeedForward region) → anew ≡ false }
     ensures needs { (region : ℕ) → IsErrOf result (RollError.NeedForward region) → IfSome (D.disk disk.old).content (λ files. HaveFirstWithout files region) }

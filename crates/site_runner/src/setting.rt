@@ -1,5 +1,6 @@
 // SET JOURNAL.
 ghost use Rattle.std.specs.Prelude.{◌≡◌, ◌<◌, ◌≤◌, length, IfSome, IfOk, OnOk, OnErr, Some};
+ghost use Rattle.global_defs.specs.declared.limits.TheConstants.{MOST_REGIONS};
 ghost use Rattle.disk_defs.specs.Disk.{IsDurable};
 ghost use Rattle.journal_defs.specs.Numbers.{INSTANCE};
 ghost use Rattle.journal_defs.specs.Instance.{regions, site_name};
@@ -47,7 +48,7 @@ fn set_there<D: Disk>(
     requires there { IfSome (D.disk disk.old).content (λ files. (c : Contents) → IsSite files c → region_number region.now c ≡ Some number) }
     requires named { (c : Contents) × (region_number region.now c ≡ Some number) }
     requires inside { number < length (regions log.records) }
-    requires few { length (regions log.records) ≤ 8 }
+    requires few { length (regions log.records) ≤ MOST_REGIONS }
     requires called { site_name log.records ≡ name.now }
     requires unset { unset_by region.now log.records ≡ None }
     requires told { IfSome (D.disk disk.old).content (λ files. IsInstance (files INSTANCE) log.records) }

@@ -1,7 +1,7 @@
 // The top call.
 ghost use Rattle.std.specs.Prelude.{◌≡◌, ◌≢◌, ◌≤◌, ◌<◌, ◌+◌, ◌⊎◌, ◌↔◌, ℕ, List, [], ◌∷◌, map, length, codes, string_bytes, IfSome, OnOk, IfErr, MatchBool, true, false};
 ghost use Rattle.std.specs.Io.KnownBytes.{Consumes};
-ghost use Rattle.repl_io.specs.Fault.{Rose};
+ghost use Rattle.global_defs.specs.Counts.{Rose};
 ghost use Rattle.world_defs.specs.World.{World, IsFresh};
 ghost use Rattle.world_defs.specs.Ties.{AreDisks};
 ghost use Rattle.command_defs.specs.Lines.{lines_of};
@@ -20,6 +20,7 @@ use super::moving::{give_back, take_disks};
 use super::slot::Slot;
 use super::status::Status;
 use super::write::write_all;
+use global_defs::limits::MOST_LINES;
 use gvn_key::Bytes;
 use line_reader::{LineEnd, LineError, ReadAhead};
 use repl_disk::Disk;
@@ -28,11 +29,8 @@ use repl_script::{Command, Script, ScriptError};
 use std::alloc::Global;
 use world_laws::fitness::steps_keep_fit;
 
-/// How many lines a script may have.
-const MOST_LINES: u32 = 100_000;
-
 /// How many bytes a line may have.
-const LONGEST_LINE: u32 = 4096;
+const LONGEST_LINE: u32 = global_defs::limits::LONGEST_LINE as u32;
 
 /// How many bytes of a script are read at most: as many lines as there may be, each with a byte too many, and one byte more.
 const MOST_BYTES: u32 = 409_700_001;

@@ -5,6 +5,7 @@ use Rattle.std.specs.List.{AllByRecursion}
 use Rattle.std.specs.Option.{option_or}
 use Rattle.std.proofs.lemmas.Bool.Decides.{nat_tests}
 use Rattle.std.proofs.Math.Seq.{take-length, drop-length}
+use Rattle.global_defs.specs.declared.limits.TheConstants.{MOST_REIGNS, NUMBERS_END}
 use Rattle.disk_defs.specs.Disk.{Files, View, Image, IsLawful, AtEachMoment}
 use Rattle.disk_defs.specs.Frames.{Only, OnlyOn, SameOutside, OthersStay}
 use Rattle.disk_defs.proofs.Moments.{started, weaker, holds_now}
@@ -28,7 +29,7 @@ use Rattle.journal_defs.specs.Sequence.{Placed, Records}
 use Rattle.journal_defs.specs.Stands.{IsInstance, in_generation}
 use Rattle.journal_defs.specs.Epochs.{Chosen, chosen, block_of}
 use Rattle.journal_defs.specs.Growth.{with_record, with_more, AreEntries}
-use Rattle.journal_defs.specs.Fit.{IsSoundImage, MOST_REIGNS}
+use Rattle.journal_defs.specs.Fit.{IsSoundImage}
 use Rattle.journal_laws.proofs.Runs as runs
 use Rattle.journal_laws.proofs.Later as later
 use Rattle.journal_laws.proofs.Appending.{journal_same}
@@ -248,7 +249,7 @@ ready_begun v w old new x ready some instance records journals layout stays glob
       (frames.journals_ready v w (Only INSTANCE) old.journals.journals.items stays (journals_away v old ready) (generation old.instance.records) ready.journals));
   each_region = ap (λ (js : RegionJournals). length js.journals.items) journals ∙ ready.each_region ∙ sym (ap (λ (rs : List InstanceRecord). length (regions rs)) records ∙ ap length (regions_kept old.instance.records x some));
   regions = subst (λ (n : ℕ). AreHeld w n new.globals) (sym (ap (λ (rs : List InstanceRecord). length (regions rs)) records ∙ ap length (regions_kept old.instance.records x some))) (held_beside v w old new ready stays globals);
-  few = subst (λ (i : EntryIndex). entry_count i < 2 ^ 40) (sym entries) ready.few;
+  few = subst (λ (i : EntryIndex). entry_count i < NUMBERS_END) (sym entries) ready.few;
   whole = subst IsWhole (sym entries) ready.whole;
   some_place = subst (λ (i : EntryIndex). 1 ≤ i.regions) (sym entries) ready.some_place;
   each_place = ap (λ (i : EntryIndex). i.regions) entries ∙ ready.each_place ∙ sym (ap (λ (rs : List InstanceRecord). length (regions rs)) records ∙ ap length (regions_kept old.instance.records x some));
@@ -365,7 +366,7 @@ ready_kept v w old new ready instance records journals layout stays globals entr
       (frames.journals_ready v w (Only INSTANCE) old.journals.journals.items stays (journals_away v old ready) (generation old.instance.records) ready.journals));
   each_region = ap (λ (js : RegionJournals). length js.journals.items) journals ∙ ready.each_region ∙ sym (ap (λ (rs : List InstanceRecord). length (regions rs)) records);
   regions = subst (λ (n : ℕ). AreHeld w n new.globals) (sym (ap (λ (rs : List InstanceRecord). length (regions rs)) records)) (held_beside v w old new ready stays globals);
-  few = subst (λ (i : EntryIndex). entry_count i < 2 ^ 40) (sym entries) ready.few;
+  few = subst (λ (i : EntryIndex). entry_count i < NUMBERS_END) (sym entries) ready.few;
   whole = subst IsWhole (sym entries) ready.whole;
   some_place = subst (λ (i : EntryIndex). 1 ≤ i.regions) (sym entries) ready.some_place;
   each_place = ap (λ (i : EntryIndex). i.regions) entries ∙ ready.each_place ∙ sym (ap (λ (rs : List InstanceRecord). length (regions rs)) records);

@@ -9,11 +9,11 @@ use Rattle.std.proofs.lemmas.List.{take-append-le, drop-append-le, length-drop}
 use Rattle.std.proofs.lemmas.List.Concat.{flat_map-append}
 use Rattle.std.proofs.lemmas.List.Sums.{fold-append}
 use Rattle.std.proofs.Math.Seq.{take-append-add}
+use Rattle.global_defs.specs.declared.limits.TheConstants.{MOST_NODES, MOST_REGIONS, NUMBERS_END}
 use Rattle.disk_defs.specs.Disk.{Files, View, Image, IsLawful, AtEachMoment}
 use Rattle.disk_defs.specs.Frames.{OnlyIn, OthersStay}
 use Rattle.disk_defs.proofs.Moments.{weaker, then_more, holds_now, started}
 use Rattle.global_defs.specs.Entry.{Update, Entry, Sequence, Transaction, apply, state}
-use Rattle.global_defs.specs.Evaluation.{MOST_NODES}
 use Rattle.global_defs.specs.Prefix.{stamp_at}
 use Rattle.gvn_model.specs.declared.entry.Transaction as code
 use Rattle.gvn_model.specs.declared.reign.Stamp as code_stamp
@@ -69,7 +69,7 @@ use Rattle.site_store.proofs.Parts.{parts_more}
 use Rattle.entry_index.specs.Found.{IsWhole}
 
 -- the parts that were appended are those of the transaction
-pub parts_appended : (v : View) (s : Memory) (t : Transaction) (parts : PartRecords) (before js : List RegionJournal) (hard waiting : ℕ → List JournalRecord) → length js ≡ length before → length before ≤ 8
+pub parts_appended : (v : View) (s : Memory) (t : Transaction) (parts : PartRecords) (before js : List RegionJournal) (hard waiting : ℕ → List JournalRecord) → length js ≡ length before → length before ≤ MOST_REGIONS
     → ArePartsOf s t parts → KeepsJournals v hard (λ r. waiting r ++ listed (part_in parts r)) js → KeepsJournals v hard (λ r. waiting r ++ listed (recorded (parts_of s t r))) js
 parts_appended v s t parts before js hard waiting many few are keeps = record {
   has = λ r x there. subst (λ (o : Option JournalRecord). journals.HasRecords v x.journal (record { hard = hard r; opening = []; closed = waiting r ++ listed o })) (is r x there) (keeps.has r x there);
@@ -272,7 +272,7 @@ abbrev own_parts : Contents → Memory → Transaction → ℕ → Option Part
 own_parts c s t = split (region_in c) (count_of s + 1) (mask_of (region_in c) t.updates) t
 
 record AreOwn (c : Contents) (s : Memory) (t : Transaction) (parts : PartRecords) : Type 0 where
-  each : (r : ℕ) → r < 8 → part_in parts r ≡ recorded (own_parts c s t r)
+  each : (r : ℕ) → r < MOST_REGIONS → part_in parts r ≡ recorded (own_parts c s t r)
   is_split : IsSplit (region_in c) (mask_of (region_in c) t.updates) t
   no_other : (r : ℕ) → length (regions c.instance) ≤ r → own_parts c s t r ≡ None
 
@@ -287,7 +287,7 @@ are_own v c h s t parts ready m are =
     }
 
 -- the records that wait then
-waits_longer : (x : View) (hard waits : ℕ → List JournalRecord) (part : ℕ → Option Part) (parts : PartRecords) (js : List RegionJournal) → length js ≤ 8 → ((r : ℕ) → r < 8 → part_in parts r ≡ recorded (part r))
+waits_longer : (x : View) (hard waits : ℕ → List JournalRecord) (part : ℕ → Option Part) (parts : PartRecords) (js : List RegionJournal) → length js ≤ MOST_REGIONS → ((r : ℕ) → r < MOST_REGIONS → part_in parts r ≡ recorded (part r))
     → KeepsJournals x hard (λ r. waits r ++ listed (part_in parts r)) js → KeepsJournals x hard (λ r. waits r ++ listed (recorded (part r))) js
 waits_longer x hard waits part parts js few each kept = record {
   has = λ r y is. subst (λ (l : List JournalRecord). journals.HasRecords x y.journal (record { hard = hard r; opening = []; closed = l })) (sym (more r y is)) (kept.has r y is);
@@ -386,7 +386,7 @@ open_longer v w x told c h old mid new t parts p lawful lawful_after is =
 -- open for calls, and under its reign
 pub ready_by : (w x : View) (mid new : Memory) → IsReady w mid → ((g : ℕ) → AreReady w g mid.journals.journals.items → AreReady x g new.journals.journals.items) → length new.journals.journals.items ≡ length mid.journals.journals.items
     → ((g : ℕ) → AreReady w g mid.journals.journals.items → OthersStay (IsNewestFile g (length mid.journals.journals.items)) w x) → new.instance ≡ mid.instance → new.layout ≡ mid.layout
-    → AreHeld w (length (regions mid.instance.records)) new.globals → count_of new < 2 ^ 40 → IsWhole new.entries → new.entries.regions ≡ mid.entries.regions → IsReady x new
+    → AreHeld w (length (regions mid.instance.records)) new.globals → count_of new < NUMBERS_END → IsWhole new.entries → new.entries.regions ≡ mid.entries.regions → IsReady x new
 ready_by w x mid new ready journals count stays instance layout held few whole wide =
     let g = generation mid.instance.records in
     let many = length (regions mid.instance.records) in
@@ -407,7 +407,7 @@ ready_by w x mid new ready journals count stays instance layout held few whole w
 
 pub ready_after : (w x : View) (mid new : Memory) → IsReady w mid → ((g : ℕ) → AreReady w g mid.journals.journals.items → AreReady x g new.journals.journals.items) → length new.journals.journals.items ≡ length mid.journals.journals.items
     → ((g : ℕ) → AreReady w g mid.journals.journals.items → OthersStay (IsNewestFile g (length mid.journals.journals.items)) w x) → new.instance ≡ mid.instance → new.layout ≡ mid.layout
-    → AreChanged mid.globals new.globals → count_of new < 2 ^ 40 → IsWhole new.entries → new.entries.regions ≡ mid.entries.regions → IsReady x new
+    → AreChanged mid.globals new.globals → count_of new < NUMBERS_END → IsWhole new.entries → new.entries.regions ≡ mid.entries.regions → IsReady x new
 ready_after w x mid new ready journals count stays instance layout changed few whole wide =
     ready_by w x mid new ready journals count stays instance layout (held_changed w (length (regions mid.instance.records)) mid.globals new.globals changed ready.regions) few whole wide
 
@@ -425,7 +425,7 @@ own_stays v w s ready stays = subst (λ (n : ℕ). OthersStay (IsNewestFile (gen
 -- open for calls, with what is prepared
 pub ready_prepared : (v w : View) (old new : Memory) (js : RegionJournals) → IsReady v old → ((g : ℕ) → AreReady v g old.journals.journals.items → AreReady w g js.journals.items) → length js.journals.items ≡ length old.journals.journals.items
     → ((g : ℕ) → AreReady v g old.journals.journals.items → OthersStay (IsNewestFile g (length old.journals.journals.items)) v w) → new.journals ≡ js → new.instance ≡ old.instance → new.layout ≡ old.layout
-    → AreChanged old.globals new.globals → count_of new < 2 ^ 40 → IsWhole new.entries → new.entries.regions ≡ old.entries.regions → IsReady w new
+    → AreChanged old.globals new.globals → count_of new < NUMBERS_END → IsWhole new.entries → new.entries.regions ≡ old.entries.regions → IsReady w new
 ready_prepared v w old new js ready journals count stays is instance layout changed few whole wide =
     ready_after v w old new ready (subst (λ (k : RegionJournals). (g : ℕ) → AreReady v g old.journals.journals.items → AreReady w g k.journals.items) (sym is) journals)
     (ap (λ (k : RegionJournals). length k.journals.items) is ∙ count) stays instance layout changed few whole wide

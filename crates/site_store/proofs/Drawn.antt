@@ -8,9 +8,10 @@ use Rattle.std.proofs.lemmas.List.Elements.{filter_map-append}
 use Rattle.std.proofs.Math.Path.{fun_ext}
 use Rattle.disk_defs.specs.Disk.{Files}
 use Rattle.global_defs.specs.Entry.{Sequence}
+use Rattle.global_defs.specs.Region.{Region}
 use Rattle.journal_defs.specs.Numbers.{INSTANCE, lost_file, broken_file}
 use Rattle.journal_defs.specs.Journal.{Start}
-use Rattle.journal_defs.specs.Instance.{InstanceRecord, NamedMode, Cut, generation, regions, site_name}
+use Rattle.journal_defs.specs.Instance.{InstanceRecord, Cut, generation, regions, site_name}
 use Rattle.journal_defs.specs.Directory.{Pattern, patterns}
 use Rattle.journal_defs.specs.Broken.{broken, broken_text}
 use Rattle.journal_defs.specs.Sequence.{Placed, Records, IsSequence}
@@ -156,7 +157,7 @@ module _ (rs : List InstanceRecord) (last : ℕ → ℕ) (journal : ℕ → List
 
   mapped_drawn : (n : ℕ) → AllByRecursion (λ (p : Pattern). p.region < length (regions (rs ++ next_cut rs n ∷ []))) (patterns (rs ++ next_cut rs n ∷ []))
   mapped_drawn n =
-      subst (λ (l : List NamedMode). AllByRecursion (λ (p : Pattern). p.region < length l) (patterns (rs ++ next_cut rs n ∷ []))) (sym (same_regions n))
+      subst (λ (l : List Region). AllByRecursion (λ (p : Pattern). p.region < length l) (patterns (rs ++ next_cut rs n ∷ []))) (sym (same_regions n))
       (subst (λ (ps : List Pattern). AllByRecursion (λ (p : Pattern). p.region < length (regions rs)) ps) (sym (patterns_same rs (next_cut rs n) refl)) form.mapped)
 
   -- What drawing the next generation with a CUT to t leaves of such files: they are sound with these entries, and the text is written.
@@ -184,7 +185,7 @@ module _ (rs : List InstanceRecord) (last : ℕ → ℕ) (journal : ℕ → List
     starts_are : (k r : ℕ) → starts_of (journal r) ++ starts_as anew k D r ≡ starts_of (journal r ++ files.starts_in_as anew rs last k r)
     starts_are k r =
         ap (λ (l : List Start). starts_of (journal r) ++ l)
-        (ap (λ (l : List NamedMode). if nat_lt r k && nat_lt r (length l) then start_as anew D r ∷ [] else []) (same_regions t)
+        (ap (λ (l : List Region). if nat_lt r k && nat_lt r (length l) then start_as anew D r ∷ [] else []) (same_regions t)
         ∙ begins_same (nat_lt r k) (nat_lt r many) (start_as anew D r) (record { region = r; before = begun_mode anew rs r; generation = suc (generation rs); previous = last r }) (first r) refl (λ low here. start_is r (grind (arith, nat_tests, here))))
         ∙ sym (filter_map-append (λ (p : Placed). start_in p.what) (journal r) (files.starts_in_as anew rs last k r))
 

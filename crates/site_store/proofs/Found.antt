@@ -2,6 +2,7 @@
 use Rattle.std.proofs.Common.{◌≡◌, inl, inr, ℕ, ◌<◌, ◌≤◌, true, List, [], ◌∷◌, length, Option, Some, None, refl, sym, ◌∙◌, ap, subst, arith}
 use Rattle.std.proofs.lemmas.Bool.Decides.{nat_tests}
 use Rattle.std.specs.List.{AllByRecursion, AllZip}
+use Rattle.global_defs.specs.declared.limits.TheConstants.{MOST_REGIONS}
 use Rattle.disk_defs.specs.Disk.{Files}
 use Rattle.disk_defs.specs.Gates.{Body, records}
 use Rattle.journal_defs.specs.Numbers.{INSTANCE}
@@ -62,7 +63,7 @@ all_in_form [] (r ∷ rs) zip = absurd zip
 all_in_form (b ∷ bodies) [] zip = tt
 all_in_form (b ∷ bodies) (r ∷ rs) zip = (zip.0.form, all_in_form bodies rs zip.1)
 
-pub region_bounds : (rs : List InstanceRecord) → AllByRecursion IsInForm rs → BeginsWithCreate rs → 0 < length rs → (1 ≤ length (regions rs)) × (length (regions rs) ≤ 8)
+pub region_bounds : (rs : List InstanceRecord) → AllByRecursion IsInForm rs → BeginsWithCreate rs → 0 < length rs → (1 ≤ length (regions rs)) × (length (regions rs) ≤ MOST_REGIONS)
 region_bounds [] form begins some = absurd (omega (arith, some))
 region_bounds (Create name named ∷ rs) form begins some = (form.0.1, form.0.2)
 region_bounds (Reigned r ∷ rs) form begins some = absurd begins
@@ -70,7 +71,7 @@ region_bounds (Cut n g ∷ rs) form begins some = absurd begins
 region_bounds (Map region star name ∷ rs) form begins some = absurd begins
 region_bounds (Mode region before ∷ rs) form begins some = absurd begins
 
-pub region_count : (file : List ℕ) (rs : List InstanceRecord) → IsInstance file rs → 0 < length rs → (1 ≤ length (regions rs)) × (length (regions rs) ≤ 8)
+pub region_count : (file : List ℕ) (rs : List InstanceRecord) → IsInstance file rs → 0 < length rs → (1 ≤ length (regions rs)) × (length (regions rs) ≤ MOST_REGIONS)
 region_count file rs is some = region_bounds rs (all_in_form is.bodies.0 rs is.bodies.2) is.create some
 
 pub made_some : (c : Contents) → is_made c ≡ true → 0 < length c.instance

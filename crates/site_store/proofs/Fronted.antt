@@ -6,6 +6,7 @@ use Rattle.std.proofs.lemmas.Bool.{cases_lt}
 use Rattle.std.proofs.lemmas.Bool.Decides.{nat_tests}
 use Rattle.std.proofs.lemmas.List.Elements.{filter_map-append}
 use Rattle.std.proofs.Math.Path.{fun_ext}
+use Rattle.global_defs.specs.declared.limits.TheConstants.{MOST_GENERATIONS, MOST_REGIONS}
 use Rattle.disk_defs.specs.Disk.{Files}
 use Rattle.disk_defs.specs.Frames.{SameOutside}
 use Rattle.global_defs.specs.Entry.{Sequence}
@@ -15,7 +16,6 @@ use Rattle.journal_defs.specs.Instance.{InstanceRecord, generation, regions}
 use Rattle.journal_defs.specs.Sequence.{Records}
 use Rattle.journal_defs.specs.Stands.{AreRecords, in_generation}
 use Rattle.journal_defs.specs.Growth.{NonePast, with_more}
-use Rattle.journal_defs.specs.Clean.{MOST_GENERATIONS}
 use Rattle.journal_defs.specs.Fit.{IsSoundImage}
 use Rattle.block_laws.specs.Several.{tcoms_among}
 use Rattle.block_laws.proofs.Together as together
@@ -87,7 +87,7 @@ front_no_pini n l (WithEpoch is m number e) = subst (AllByRecursion IsNoPini) (s
 
 -- the contents of an image of the site with such records more
 module _ (d f : Files) (c : Contents) (s t : Records) (g m : ℕ) (is : IsSite d c) (held : AreRecords d s) (own : s.instance ≡ c.instance) (newest : generation c.instance ≡ suc g) (not_last : suc g ≤ MOST_GENERATIONS)
-    (more : HasMore (length c.sequence) (suc g) s t) (few : m ≤ 8) (same : SameOutside (IsEpochFile (suc g) m) d f) (sound : IsSoundImage f t c.sequence) where
+    (more : HasMore (length c.sequence) (suc g) s t) (few : m ≤ MOST_REGIONS) (same : SameOutside (IsEpochFile (suc g) m) d f) (sound : IsSoundImage f t c.sequence) where
   abbrev pub picked : ℕ → Bool
   picked r = has_epoch (length c.sequence) (more.more r) (more.each r)
 

@@ -2,6 +2,7 @@
 use Rattle.std.proofs.Common.{◌≡◌, ◌≤◌, ◌<◌, ℕ, suc, Bool, true, List, [], ◌++◌, length, map, take, drop, filter, refl, sym, ◌∙◌, ap, subst, arith, append-nil}
 use Rattle.std.specs.Prelude.{◌^◌, Option, IfSome}
 use Rattle.std.proofs.Math.Seq.{take-length, drop-length}
+use Rattle.global_defs.specs.declared.limits.TheConstants.{MOST_REGIONS, NUMBERS_END}
 use Rattle.disk_defs.specs.Disk.{Files, View, Image, IsLawful, AtEachMoment}
 use Rattle.disk_defs.specs.Frames.{SameOutside, OnlyIn, OthersStay}
 use Rattle.disk_defs.proofs.Moments.{weaker, holds_now}
@@ -117,7 +118,7 @@ pub record Hardens (v w : View) (old new : Memory) : Type 0 where
 pub ready_hardened : (v w : View) (old new : Memory) → Hardens v w old new → IsReady w new
 ready_hardened v w old new p =
     ready_after v w old new p.ready p.journals p.count p.stays p.instance p.layout (changed_not old.globals new.globals p.globals)
-    (subst (λ (i : EntryIndex). entry_count i < 2 ^ 40) (sym p.entries) p.ready.few) (subst IsWhole (sym p.entries) p.ready.whole) (ap (λ (i : EntryIndex). i.regions) p.entries)
+    (subst (λ (i : EntryIndex). entry_count i < NUMBERS_END) (sym p.entries) p.ready.few) (subst IsWhole (sym p.entries) p.ready.whole) (ap (λ (i : EntryIndex). i.regions) p.entries)
 
 module _ (v w : View) (c : Contents) (h : ℕ) (old new : Memory) (p : Hardens v w old new) (lawful : IsLawful w) (k : Keeps v c h old) (m : Remembers c h old) where
   own : old.instance.records ≡ c.instance
@@ -126,7 +127,7 @@ module _ (v w : View) (c : Contents) (h : ℕ) (old new : Memory) (p : Hardens v
   size : length old.journals.journals.items ≡ length (regions c.instance)
   size = newest.count v c h old k p.ready own
 
-  few : length (regions c.instance) ≤ 8
+  few : length (regions c.instance) ≤ MOST_REGIONS
   few = newest.few v c h old k p.ready own
 
   stays : OthersStay (IsNewestFile (suc k.g) (length old.journals.journals.items)) v w

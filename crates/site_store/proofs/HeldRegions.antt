@@ -2,6 +2,7 @@
 use Rattle.std.proofs.Common.{◌≡◌, inl, inr, ℕ, List, ◌≤◌, ◌<◌, sym, ◌∙◌, ap, subst, arith, length}
 use Rattle.std.proofs.lemmas.Bool.{cases_lt}
 use Rattle.std.proofs.lemmas.List.{get_or_past}
+use Rattle.global_defs.specs.declared.limits.TheConstants.{MOST_REGIONS}
 use Rattle.disk_defs.specs.Disk.{Files, View, Image, From, Reads}
 use Rattle.disk_defs.specs.Frames.{SameOutside, OthersStay, Only}
 use Rattle.disk_defs.proofs.Told.{reads_after, weaker_told}
@@ -26,7 +27,7 @@ held_stays v w F n j stays apart h = record {
 }
 
 -- a journal is no database file, of eight regions at most
-pub no_journal : (g m n : ℕ) → n ≤ 8 → (r : ℕ) → r < n → IsNewestFile g m (database_file r) → ⊥
+pub no_journal : (g m n : ℕ) → n ≤ MOST_REGIONS → (r : ℕ) → r < n → IsNewestFile g m (database_file r) → ⊥
 no_journal g m n few r here i = omega (arith, i.is, few, here)
 
 -- nor is the instance file
@@ -37,7 +38,7 @@ pub held_read : (v w : View) (n : ℕ) (j : Joined) → Reads v w → AreHeld v 
 held_read v w n j reads h = held_stays v w (λ f. ⊥) n j (others_read (λ f. ⊥) v w reads) (λ r here no. no) h
 
 -- a site that was read, while its next generation is drawn
-pub held_drawn : (v w : View) (rs : List InstanceRecord) (j : Joined) → length (regions rs) ≤ 8 → OthersStay (AreNext rs) v w → AreHeld v (length (regions rs)) j → AreHeld w (length (regions rs)) j
+pub held_drawn : (v w : View) (rs : List InstanceRecord) (j : Joined) → length (regions rs) ≤ MOST_REGIONS → OthersStay (AreNext rs) v w → AreHeld v (length (regions rs)) j → AreHeld w (length (regions rs)) j
 held_drawn v w rs j few stays h = held_stays v w (AreNext rs) (length (regions rs)) j stays (λ r here i. elim i [
   | inl e ↦ omega (arith, e)
   | inr behind ↦ elim behind [ inl e ↦ omega (arith, e, here, few) | inr next ↦ (let e = next.2 in omega (arith, e, here, few)) ]

@@ -3,6 +3,7 @@ use Rattle.std.proofs.Common.{◌≡◌, ℕ, suc, ◌+◌, ◌≤◌, ◌<◌, 
 use Rattle.std.specs.Prelude.{slice_get, sum_by}
 use Rattle.std.specs.List.{AllZip}
 use Rattle.std.proofs.Math.Seq.{take-append_seam}
+use Rattle.global_defs.specs.declared.limits.TheConstants.{MOST_REGIONS}
 use Rattle.disk_defs.specs.Disk.{Files, View, Image, IsLawful}
 use Rattle.disk_defs.specs.Gates.{Body, spelled, spelled_with}
 use Rattle.gated_file.specs.State.{ones, shut}
@@ -99,7 +100,7 @@ module _ (v : View) (c : Contents) (h : ℕ) (s : Memory) (k : Keeps v c h s) (r
 
   -- with the places of one entry more, whose parts wait then
   pub index_entered : (f : Files) → Image v f → (new : EntryIndex) (parts : PartRecords) (part : ℕ → Option Part) (e : Entry) → AddsPlaces parts s.journals.journals.items s.entries new
-      → ((r : ℕ) → r < 8 → part_in parts r ≡ recorded (part r)) → ((r : ℕ) → length (regions c.instance) ≤ r → part r ≡ None) → AreNumbered (suc (length c.sequence)) part
+      → ((r : ℕ) → r < MOST_REGIONS → part_in parts r ≡ recorded (part r)) → ((r : ℕ) → length (regions c.instance) ≤ r → part r ≡ None) → AreNumbered (suc (length c.sequence)) part
       → entry_with part (stamp_at (suc (length c.sequence)) (reigns c.instance)) ≡ Some e
       → IsIndexOf (λ r. k.records.journal r ++ map (in_generation (suc k.g)) (k.waits r ++ listed (recorded (part r)))) (reigns c.instance) new (c.sequence ++ e ∷ [])
   index_entered f image new parts part e adds each no_other numbered entry =

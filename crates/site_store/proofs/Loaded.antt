@@ -4,6 +4,7 @@ use Rattle.std.specs.Prelude.{◌^◌, filter, nat_le, fold, replicate, slice_ge
 use Rattle.std.specs.List.{AllByRecursion, flat_map}
 use Rattle.std.proofs.lemmas.Bool.Decides.{nat_tests}
 use Rattle.std.proofs.lemmas.List.{length-map, length-replicate}
+use Rattle.global_defs.specs.declared.limits.TheConstants.{NUMBERS_END}
 use Rattle.disk_defs.specs.Disk.{Files, View, Image, IsLawful, From, AtEachMoment}
 use Rattle.disk_defs.proofs.Told.{weaker_told, both_weak, told_at}
 use Rattle.disk_defs.proofs.Moments.{weaker, then_more, holds_now}
@@ -164,7 +165,7 @@ remembers_some anew rs n s records count hardened es is none =
     )
 
 module _ (rs : List InstanceRecord) (last : ℕ → ℕ) (form : MayBeOpened rs last) (s : Memory) (n : ℕ) (records : s.instance.records ≡ rs ++ next_cut rs n ∷ []) where
-  pub was_opened : n ≡ count_of s → s.hardened ≡ count_of s → count_of s < 2 ^ 40 → s.stamp ≡ None → WasOpened s
+  pub was_opened : n ≡ count_of s → s.hardened ≡ count_of s → count_of s < NUMBERS_END → s.stamp ≡ None → WasOpened s
   was_opened count hardened few none = record {
     created = subst (λ (l : List InstanceRecord). 0 < length l) (sym records) (longer rs (next_cut rs n));
     name = subst (λ (l : List InstanceRecord). IsSiteName (site_name l)) (sym records) (name_of rs (next_cut rs n) form.some form.order.ordered.create form.form);
@@ -190,7 +191,7 @@ module _ (rs : List InstanceRecord) (last : ℕ → ℕ) (form : MayBeOpened rs 
     number_is = ap length js_are ∙ length-map begun newly ∙ number
 
     pub is_ready : instances.IsReady w s.instance → HasLayout (rs ++ next_cut rs n ∷ []) s.layout → ((r : ℕ) (j : Journal) → slice_get begun r ≡ Some j → journals.IsReady w j × journals.IsJournalOf j r (suc (generation rs)))
-        → AreHeld w (length (regions rs)) s.globals → count_of s < 2 ^ 40 → IsWhole s.entries → s.entries.regions ≡ length (regions rs) → IsReady w s
+        → AreHeld w (length (regions rs)) s.globals → count_of s < NUMBERS_END → IsWhole s.entries → s.entries.regions ≡ length (regions rs) → IsReady w s
     is_ready instance layout each held few whole wide = record {
       instance = instance;
       layout = subst (λ (l : List InstanceRecord). HasLayout l s.layout) (sym records) layout;

@@ -5,6 +5,7 @@ use Rattle.std.proofs.Math.Path.{fun_ext}
 use Rattle.std.proofs.lemmas.Bool.{cases_lt, cases_eq}
 use Rattle.std.proofs.lemmas.Bool.Decides.{nat_tests}
 use Rattle.std.proofs.lemmas.List.{map-append, get_or_past}
+use Rattle.global_defs.specs.declared.limits.TheConstants.{MOST_REGIONS, NUMBERS_END}
 use Rattle.disk_defs.specs.Disk.{Files, View, Image, IsLawful}
 use Rattle.disk_defs.specs.Frames.{OnlyIn, OthersStay}
 use Rattle.disk_defs.proofs.Frames.{others_then}
@@ -104,7 +105,7 @@ held_logged v w old new p =
 pub ready_logged : (v w : View) (old new : Memory) → Logs v w old new → IsReady w new
 ready_logged v w old new p =
     committed.ready_by v w old new p.ready p.journals p.count p.stays p.same.instance p.same.layout (held_logged v w old new p)
-    (subst (λ (i : EntryIndex). entry_count i < 2 ^ 40) (sym p.entries) p.ready.few) (subst IsWhole (sym p.entries) p.ready.whole) (ap (λ (i : EntryIndex). i.regions) p.entries)
+    (subst (λ (i : EntryIndex). entry_count i < NUMBERS_END) (sym p.entries) p.ready.few) (subst IsWhole (sym p.entries) p.ready.whole) (ap (λ (i : EntryIndex). i.regions) p.entries)
 
 -- one region behind its images, where its file has the same bytes
 region_logged : (d f files : Files) (s u : Records) (n g r : ℕ) (is : List Before) (x y : Standing) → IsOnBlocks d s n r x → IsLogged (files x.file) is x y → u.instance ≡ s.instance → u.journal r ≡ s.journal r ++ map (in_generation g) (image_records is)
@@ -139,7 +140,7 @@ module _ (v w : View) (c : Contents) (h : ℕ) (old new : Memory) (p : Logs v w 
   n : ℕ
   n = length (regions c.instance)
 
-  few : length (regions c.instance) ≤ 8
+  few : length (regions c.instance) ≤ MOST_REGIONS
   few = newest.few v c h old k p.ready own
 
   stays : OthersStay (IsNewestFile (suc k.g) (length old.journals.journals.items)) v w

@@ -6,6 +6,7 @@ use Rattle.std.proofs.lemmas.Bool.{cases_lt}
 use Rattle.std.proofs.lemmas.Bool.Decides.{nat_tests}
 use Rattle.std.proofs.Math.Path.{fun_ext}
 use Rattle.std.proofs.Math.Seq.{take-length, drop-length}
+use Rattle.global_defs.specs.declared.limits.TheConstants.{MOST_REGIONS, NUMBERS_END}
 use Rattle.disk_defs.specs.Disk.{Files, View, Image, IsLawful, AtEachMoment}
 use Rattle.disk_defs.specs.Frames.{OthersStay, OnlyIn}
 use Rattle.disk_defs.proofs.Moments.{weaker, holds_now}
@@ -157,7 +158,7 @@ EpochTaken v w closing s new = (u : Records) (seq : Sequence) (g : ℕ) (newer :
     → length seq ≡ count_of s → IsTaken w closing u seq g newer new.journals.journals.items new.globals
 
 module _ (v w : View) (c : Contents) (s : Memory) (k : Keeps v c (length c.sequence) s) (none : (r : ℕ) → k.waits r ≡ []) (mine : Remembers c (length c.sequence) s) (ready : IsReady v s) (are : AreJoined s.globals) (lawful : IsLawful v) (lawful_after : IsLawful w) where
-  few : length s.journals.journals.items ≤ 8
+  few : length s.journals.journals.items ≤ MOST_REGIONS
   few = ready.journals.few
 
   count : length c.sequence ≡ count_of s
@@ -348,7 +349,7 @@ ready_taken v w s new ready stays together count same instance layout entries =
         files = λ r here. t.files r (omega (arith, here, regions_are));
         held = λ r here. t.held r (omega (arith, here, regions_are));
       });
-      few = subst (λ (i : EntryIndex). entry_count i < 2 ^ 40) (sym entries) ready.few;
+      few = subst (λ (i : EntryIndex). entry_count i < NUMBERS_END) (sym entries) ready.few;
       whole = subst IsWhole (sym entries) ready.whole;
       some_place = subst (λ (i : EntryIndex). 1 ≤ i.regions) (sym entries) ready.some_place;
       each_place = ap (λ (i : EntryIndex). i.regions) entries ∙ ready.each_place ∙ ap (λ (i : Instance). length (regions i.records)) (sym instance);

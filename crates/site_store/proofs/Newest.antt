@@ -6,6 +6,7 @@ use Rattle.std.proofs.Math.Path.{fun_ext}
 use Rattle.std.proofs.Math.Seq.{take-length}
 use Rattle.std.proofs.lemmas.List.{take-append-drop, length-take-le}
 use Rattle.std.proofs.lemmas.List.Elements.{filter_map-append}
+use Rattle.global_defs.specs.declared.limits.TheConstants.{MOST_REGIONS}
 use Rattle.disk_defs.specs.Disk.{Files, View, Image}
 use Rattle.disk_defs.specs.Frames.{SameOutside}
 use Rattle.global_defs.specs.Entry.{Sequence}
@@ -91,7 +92,7 @@ module _ (v : View) (c : Contents) (h : ℕ) (s : Memory) (k : Keeps v c h s) (r
   pub count : length s.journals.journals.items ≡ length (regions c.instance)
   count = ready.each_region ∙ ap (λ (l : List InstanceRecord). length (regions l)) own
 
-  pub few : length (regions c.instance) ≤ 8
+  pub few : length (regions c.instance) ≤ MOST_REGIONS
   few = let low = ready.journals.few in let same = count in omega (arith, low, same)
 
   newest_is : generation s.instance.records ≡ suc k.g

@@ -8,9 +8,9 @@ use Rattle.std.proofs.lemmas.List.{length-take, take_all}
 use Rattle.std.proofs.lemmas.Bool.{cases_lt}
 use Rattle.std.proofs.lemmas.List.Sums.{fold-append}
 use Rattle.std.specs.List.{take-map}
+use Rattle.global_defs.specs.declared.limits.TheConstants.{MOST_NODES}
 use Rattle.global_defs.specs.Key.{Key, key_cmp}
 use Rattle.global_defs.specs.Entry.{Update, Set, Kill, ZKill, Globals, apply, is_under}
-use Rattle.global_defs.specs.Evaluation.{MOST_NODES}
 use Rattle.global_defs.proofs.Order.{key_total, key_same}
 use Rattle.site_store.specs.Site.{HasRoomFor}
 use Rattle.tp_commit.proofs.Placing.{one_longer, length-map-of}

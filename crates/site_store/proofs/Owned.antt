@@ -4,9 +4,10 @@ use Rattle.std.specs.Prelude.{Option, IfSome, nat_lt}
 use Rattle.std.specs.List.{flat_map, enumerate_from}
 use Rattle.std.proofs.Math.Seq.{take-length, drop-length}
 use Rattle.global_defs.specs.Entry.{Sequence}
+use Rattle.global_defs.specs.Region.{Region}
 use Rattle.journal_defs.specs.Broken.{broken_text}
 use Rattle.journal_defs.specs.Directory.{patterns}
-use Rattle.journal_defs.specs.Instance.{InstanceRecord, NamedMode, regions, site_name}
+use Rattle.journal_defs.specs.Instance.{InstanceRecord, regions, site_name}
 use Rattle.journal_defs.specs.Journal.{Part}
 use Rattle.journal_defs.specs.Surviving.{reigns}
 use Rattle.mupip_recover.specs.Stamps.{AreStarts}
@@ -50,7 +51,7 @@ none_taken (suc n) = refl
 none_behind : (instance : List InstanceRecord) (kept : ℕ → ℕ) (len : ℕ) → left_of instance [] kept len ≡ []
 unfolding no_parts
 none_behind instance kept len =
-    flat_none (λ (r : ℕ × NamedMode). map (λ (p : Part). record { region = r.1.name; part = p }) (filter (λ (p : Part). nat_lt len p.number) (take (kept r.0) (parts_in [] r.0)))) (enumerate_from 0 (regions instance))
+    flat_none (λ (r : ℕ × Region). map (λ (p : Part). record { region = r.1.name; part = p }) (filter (λ (p : Part). nat_lt len p.number) (take (kept r.0) (parts_in [] r.0)))) (enumerate_from 0 (regions instance))
     (λ r. ap (λ (ps : List Part). map (λ (p : Part). record { region = r.1.name; part = p }) (filter (λ (p : Part). nat_lt len p.number) ps)) (none_taken (kept r.0)))
 
 pub nothing_behind : (c : Contents) (kept : ℕ → ℕ) (len : ℕ) → text_left c c.sequence (length c.sequence) kept len ≡ []

@@ -10,8 +10,9 @@ use Rattle.std.proofs.lemmas.Bool.Decides.{nat_tests}
 use Rattle.std.proofs.lemmas.List.{take-map}
 use Rattle.std.proofs.lemmas.List.Elements.{filter_map-append}
 use Rattle.global_defs.specs.Entry.{Entry, Sequence}
+use Rattle.global_defs.specs.Region.{Region}
 use Rattle.journal_defs.specs.Journal.{Tcom, Part}
-use Rattle.journal_defs.specs.Instance.{InstanceRecord, NamedMode, generation, regions}
+use Rattle.journal_defs.specs.Instance.{InstanceRecord, generation, regions}
 use Rattle.journal_defs.specs.Directory.{Pattern}
 use Rattle.journal_defs.specs.Surviving.{survives}
 use Rattle.journal_defs.specs.Sequence.{Placed, Records, part_in, part_of, parts, entry, EntriesFrom, IsSequence}
@@ -57,7 +58,7 @@ past_placed instance g len (x ∷ xs) low =
     ∙ ap (λ (l : List Part). if nat_lt len x.number then x ∷ l else l) (past_placed instance g len xs low)
 
 -- the broken list of records of which none was past an earlier length, with the first few of these parts behind them
-abbrev pub named : (ℕ → List Part) → ℕ × NamedMode → List BrokenPart
+abbrev pub named : (ℕ → List Part) → ℕ × Region → List BrokenPart
 named f r = map (λ (p : Part). record { region = r.1.name; part = p }) (f r.0)
 
 pub broken_first : (s : Records) (g h len : ℕ) (ps : List (ℕ → Option Part)) (kept : ℕ → ℕ) → NonePast h s → h ≤ len → generation s.instance ≤ g

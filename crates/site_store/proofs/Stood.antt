@@ -1,6 +1,7 @@
 -- A site is drawn as it stood.
 use Rattle.std.proofs.Common.{◌≡◌, ℕ, suc, ◌≤◌, ◌<◌, Bool, true, false, List, [], ◌∷◌, ◌++◌, length, map, Option, Some, None, IfSome, sym, ◌∙◌, ap, subst}
 use Rattle.std.specs.Prelude.{◌^◌, slice_get}
+use Rattle.global_defs.specs.declared.limits.TheConstants.{NUMBERS_END}
 use Rattle.disk_defs.specs.Disk.{Files, View, Image, IsLawful, From, AtEachMoment}
 use Rattle.disk_defs.specs.Frames.{OthersStay}
 use Rattle.global_defs.specs.Entry.{Sequence, state}
@@ -117,8 +118,8 @@ module _ (anew : Bool) (u v w : View) (k : StandingSite) (st : Stood anew u v k)
     counts : count_of s ≡ n
     counts = ap entry_count entries ∙ sym n_is
 
-    few : count_of s < 2 ^ 40
-    few = subst (λ (i : EntryIndex). entry_count i < 2 ^ 40) (sym entries) st.few
+    few : count_of s < NUMBERS_END
+    few = subst (λ (i : EntryIndex). entry_count i < NUMBERS_END) (sym entries) st.few
 
     pub opened_here : WasOpened s
     opened_here = loaded.was_opened rs last st.form s n records (sym counts) (hardened ∙ sym counts) few stamp

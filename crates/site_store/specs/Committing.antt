@@ -1,5 +1,6 @@
 -- Entries on their way into the journals.
 use Rattle.std.specs.Prelude.{◌≡◌, ◌+◌, ◌<◌, ◌≤◌, ℕ, Bool, true, List, ◌++◌, length, take, fold, Option, Some, None, slice_get, get_or}
+use Rattle.global_defs.specs.declared.limits.TheConstants.{MOST_REGIONS}
 use Rattle.global_defs.specs.Entry.{Update, Transaction, apply}
 use Rattle.gvn_model.specs.declared.entry.Transaction as code_transaction
 use Rattle.disk_defs.specs.Disk.{View, AtEachMoment}
@@ -80,7 +81,7 @@ parts_of s t = split (region_by s) (count_of s + 1) (mask_of (region_by s) t.upd
 
 -- These are the records of those parts, each in its region.
 pub record ArePartsOf (s : Memory) (t : Transaction) (parts : PartRecords) : Type 0 where
-  pub each : (r : ℕ) → r < 8 → part_in parts r ≡ recorded (parts_of s t r)
+  pub each : (r : ℕ) → r < MOST_REGIONS → part_in parts r ≡ recorded (parts_of s t r)
   pub is_split : IsSplit (region_by s) (mask_of (region_by s) t.updates) t
   pub no_other : (r : ℕ) → s.layout.directory.regions ≤ r → parts_of s t r ≡ None
 

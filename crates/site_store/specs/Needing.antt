@@ -1,5 +1,6 @@
 -- Which regions of a site need forward recovery.
 use Rattle.std.specs.Prelude.{◌≡◌, ◌<◌, ℕ, length, Option, Some, None}
+use Rattle.site_defs.specs.Limits.{LAST_GENERATION}
 use Rattle.disk_defs.specs.Disk.{Files}
 use Rattle.global_defs.specs.Entry.{Sequence}
 use Rattle.journal_defs.specs.Instance.{generation, regions}
@@ -27,4 +28,4 @@ NoneNeeds t files = (u : Records) → AreRecords files u → NoneIsWithout u t
 
 -- a generation is left, and the region is the first that needs it for all entries of the sequence that these files stand for
 abbrev pub HaveFirstWithout : Files → (region : ℕ) → Type 0
-HaveFirstWithout files region = (u : Records) × (seq : Sequence) × AreRecords files u × IsSequence u seq × (generation u.instance < 65534) × (g : ℕ) × IsFirstWithout u (length seq) region g
+HaveFirstWithout files region = (u : Records) × (seq : Sequence) × AreRecords files u × IsSequence u seq × (generation u.instance < LAST_GENERATION) × (g : ℕ) × IsFirstWithout u (length seq) region g

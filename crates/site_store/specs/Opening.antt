@@ -1,16 +1,16 @@
 -- Making a site, and opening one.
 use Rattle.std.specs.Prelude.{◌⊎◌, ◌≤◌, ◌<◌, ℕ, Bool, false, List, [], ◌∷◌, map}
+use Rattle.global_defs.specs.Region.{Region}
 use Rattle.disk_defs.specs.Disk.{Files, View, Image, From, IsDurable}
 use Rattle.journal_defs.specs.Numbers.{lost_file, broken_file, database_file}
 use Rattle.journal_defs.specs.Instance as records
-use Rattle.journal_defs.specs.Instance.{NamedMode}
 use Rattle.site_defs.specs.Contents.{Contents, Standing}
 use Rattle.site_defs.specs.Forward.{MayOpenAs, MayOpenAsLeft}
 use Rattle.site_defs.specs.Stands.{IsBlank, IsSite, Stands}
 use Rattle.site_defs.specs.Behind.{IsStanding}
 use Rattle.site_store.specs.declared.layout.RegionSpec.{RegionSpec}
 
-abbrev pub region_value : RegionSpec → NamedMode
+abbrev pub region_value : RegionSpec → Region
 region_value r = record { name = r.name; before = r.before }
 
 -- a site that was made with these regions

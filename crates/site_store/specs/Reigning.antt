@@ -1,9 +1,9 @@
 -- Beginning a reign, by what a site has in memory.
 use Rattle.std.specs.Prelude.{◌≡◌, ◌⊎◌, ◌≤◌, ◌<◌, ◌≢◌, ◌+◌, length}
+use Rattle.global_defs.specs.declared.limits.TheConstants.{MOST_REIGNS}
 use Rattle.global_defs.specs.Entry.{Reign}
 use Rattle.journal_defs.specs.Instance.{site_name, greatest_cycle}
 use Rattle.journal_defs.specs.Surviving.{reigns}
-use Rattle.journal_defs.specs.Fit.{MOST_REIGNS}
 use Rattle.site_defs.specs.Limits.{LAST_CYCLE}
 use Rattle.site_store.specs.declared.memory.Memory.{Memory}
 use Rattle.site_store.specs.Site.{count_of}

@@ -2,6 +2,7 @@
 use Rattle.std.specs.Prelude.{◌≡◌, ◌≢◌, ◌⊎◌, ◌≤◌, ◌<◌, ◌+◌, ◌^◌, ◌++◌, ℕ, suc, Bool, true, false, List, [], ◌∷◌, length, take, drop, map, filter, fold, Option, Some, None, IsTrue, IfSome, IsSomeAnd}
 use Rattle.std.specs.List.{AllByRecursion}
 use Rattle.std.specs.FinMap as globals
+use Rattle.global_defs.specs.declared.limits.TheConstants.{MOST_NODES, MOST_GENERATIONS, NUMBERS_END}
 use Rattle.disk_defs.specs.Disk.{Files, View, Image}
 use Rattle.global_defs.specs.Entry as defs
 use Rattle.global_defs.specs.Entry.{Sequence, state}
@@ -9,7 +10,6 @@ use Rattle.global_defs.specs.Prefix.{stamp_at}
 use Rattle.global_defs.specs.Fields.{IsSiteName}
 use Rattle.gvn_model.specs.declared.reign.Stamp.{Stamp}
 use Rattle.gvn_model.specs.Reigns.{stamp_value}
-use Rattle.global_defs.specs.Evaluation.{MOST_NODES}
 use Rattle.journal_defs.specs.Journal.{JournalRecord, Pini, Epoch, Pblk, Tcom, Part, BeginsWithPini}
 use Rattle.journal_defs.specs.Instance.{InstanceRecord, Cut, generation, site_name, regions}
 use Rattle.journal_defs.specs.Directory.{patterns}
@@ -18,7 +18,6 @@ use Rattle.journal_defs.specs.Sequence.{Placed, Records}
 use Rattle.journal_defs.specs.Stands.{IsJournal, in_generation}
 use Rattle.journal_defs.specs.Growth.{NonePast, AreEntries, tcoms, with_more}
 use Rattle.block_laws.specs.Several.{MayAppendAll, is_tcom}
-use Rattle.journal_defs.specs.Clean.{MOST_GENERATIONS}
 use Rattle.journal_defs.specs.Numbers.{database_file}
 use Rattle.journal_defs.specs.Epochs.{chosen, block_of, NeedsForward}
 use Rattle.journal_defs.specs.Sound.{NoEpochPast}
@@ -67,7 +66,7 @@ pub record IsReady (v : View) (s : Memory) : Type 0 where
   pub some_place : 1 ≤ s.entries.regions
   pub each_place : s.entries.regions ≡ length (regions s.instance.records)
   pub regions : AreHeld v (length (regions s.instance.records)) s.globals
-  pub few : count_of s < 2 ^ 40
+  pub few : count_of s < NUMBERS_END
 
 -- The records of a site whose newest generation g + 1 has begun in each region: the journals of that generation alone may grow.
 pub record AreNewest (c : Contents) (s : Records) (g : ℕ) (last : ℕ → ℕ) (older : ℕ → List Placed) (newer : ℕ → List JournalRecord) : Type 0 where
@@ -170,7 +169,7 @@ pub record WasOpened (s : Memory) : Type 0 where
   pub created : 0 < length s.instance.records
   pub name : IsSiteName (site_name s.instance.records)
   pub hardened : s.hardened ≡ count_of s
-  pub few : count_of s < 2 ^ 40
+  pub few : count_of s < NUMBERS_END
   pub no_reign_past : AllByRecursion (λ (r : defs.Reign). r.start ≤ count_of s) (reigns s.instance.records)
   pub no_reign : s.stamp ≡ None
 

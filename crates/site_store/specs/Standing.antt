@@ -1,6 +1,8 @@
 -- A site as it stood on a disk.
 use Rattle.std.specs.Prelude.{◌≡◌, ◌<◌, ◌^◌, ◌++◌, ℕ, Bool, false, List, [], ◌∷◌, length, map, take, IfSome}
 use Rattle.std.specs.FinMap as globals
+use Rattle.site_defs.specs.Limits.{LAST_GENERATION}
+use Rattle.global_defs.specs.declared.limits.TheConstants.{NUMBERS_END}
 use Rattle.disk_defs.specs.Disk.{Files, View}
 use Rattle.global_defs.specs.Entry.{Sequence, state}
 use Rattle.journal_defs.specs.Broken.{broken, broken_text}
@@ -37,12 +39,12 @@ found_signs f = map (λ s. s.items) f.read.signs.items
 pub record HasFound (f : FoundFiles) : Type 0 where
   pub form : MayBeOpened f.read.log.records (last_of f.read.last_began.items)
   pub counted : length f.read.last_began.items ≡ length (regions f.read.log.records)
-  pub low : generation f.read.log.records < 65534
+  pub low : generation f.read.log.records < LAST_GENERATION
   pub directory : f.read.directory ≡ mapping_of f.read.log.records
   pub signs : length f.read.signs.items ≡ length (regions f.read.log.records)
   pub each_place : f.entries.regions ≡ length (regions f.read.log.records)
   pub whole : IsWhole f.entries
-  pub few : entry_count f.entries < 2 ^ 40
+  pub few : entry_count f.entries < NUMBERS_END
 
 -- The files hold these records, whose signs were found, and are on the disk for good since; the places are those of the sequence for which they stand.
 pub record IsFoundIn (v : View) (f : FoundFiles) (journal : ℕ → List Placed) (seq : Sequence) (files : Files) : Type 0 where
@@ -101,11 +103,11 @@ pub record StandsIn (anew : Bool) (v : View) (k : StandingSite) (journal : ℕ �
 pub record Stood (anew : Bool) (u v : View) (k : StandingSite) : Type 0 where
   pub form : MayBeOpened k.log.records (last_of k.last_began.items)
   pub counted : length k.last_began.items ≡ length (regions k.log.records)
-  pub low : generation k.log.records < 65534
+  pub low : generation k.log.records < LAST_GENERATION
   pub layout : (n : ℕ) → HasLayout (k.log.records ++ next_cut k.log.records n ∷ []) k.layout
   pub each_place : k.entries.regions ≡ length (regions k.log.records)
   pub whole : IsWhole k.entries
-  pub few : entry_count k.entries < 2 ^ 40
+  pub few : entry_count k.entries < NUMBERS_END
   pub told : IfSome u.content (λ files. (journal : ℕ → List Placed) × (seq : Sequence) × StandsIn anew v k journal seq files)
   pub texts : IfSome u.content (AreTextsDurable v (generation k.log.records))
   pub databases : IfSome u.content (AreDatabasesDurable v (length (regions k.log.records)))

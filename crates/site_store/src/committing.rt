@@ -1,5 +1,6 @@
 //! Giving a site entries.
 ghost use Rattle.std.specs.Prelude.{◌≡◌, ◌⊎◌, ◌<◌, ◌+◌, ◌^◌, ℕ, List, Bool, true, take, IfOk, IfSome, OnOk, OnErr, IsErrOf, IsSome};
+ghost use Rattle.global_defs.specs.declared.limits.TheConstants.{NUMBERS_END};
 ghost use Rattle.disk_defs.specs.Disk.{Image, AtEachMoment, MayFail};
 ghost use Rattle.global_defs.specs.Fields.{IsTransaction};
 ghost use Rattle.gvn_model.specs.Entries.{transaction_value};
@@ -32,7 +33,7 @@ impl Memory {
     ) -> Result<PartRecords, NoMemory>
         requires ready { IsReady (D.disk disk.old) self.old }
         requires form { IsTransaction (transaction_value t.now) }
-        requires room { count_of self.old + 1 < 2 ^ 40 }
+        requires room { count_of self.old + 1 < NUMBERS_END }
         requires reign { HasReign self.old }
         ensures ready { IsReady (D.disk disk.new) self.new }
         ensures enters { IfOk result (Enters self.old self.new t.now) }
@@ -64,7 +65,7 @@ impl Memory {
         requires ready { IsReady (D.disk disk.old) self.old }
         requires form { IsTransaction (transaction_value t.now) }
         requires reign { HasReign self.old }
-        requires room { count_of self.old + 1 < 2 ^ 40 }
+        requires room { count_of self.old + 1 < NUMBERS_END }
         requires fits { HasRoomFor (joined self.old.globals) t.now.updates }
         ensures ready { OnOk result (IsReady (D.disk disk.new) self.new) }
         ensures done { OnOk result ((told : Bool) (c : Contents) (h : ℕ) → IsOpen (D.disk disk.old) told c h self.old → IsOpen (D.disk disk.new) told (with_entry self.old.stamp (transaction_value t.now) c) h self.new) }

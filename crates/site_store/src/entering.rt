@@ -15,11 +15,11 @@ use region_journals::RegionJournals;
 use tp_commit::PartRecords;
 
 /// How many regions there may be.
-const MOST_REGIONS: usize = 8;
+const MOST_REGIONS: usize = global_defs::limits::MOST_REGIONS as usize;
 
 /// Where a region's part of the next entry will stand: behind all that its newest journal has, or nowhere where it has no part.
 fn next_place(journals: &RegionJournals, parts: &PartRecords, region: u8) -> PartPlace
-    requires { region < 8 }
+    requires { region < MOST_REGIONS }
     ensures { result ≡ next_place parts.now journals.now.journals.items region }
 {
     let behind = journals.journals.get(usize::from(region));
@@ -34,7 +34,7 @@ fn next_place(journals: &RegionJournals, parts: &PartRecords, region: u8) -> Par
 
 /// Where the parts of the next entry will stand, by region.
 fn next_places(journals: &RegionJournals, parts: &PartRecords) -> [PartPlace; MOST_REGIONS]
-    ensures { (r : ℕ) → r < 8 → get_or result r places.NOWHERE ≡ next_place parts.now journals.now.journals.items r }
+    ensures { (r : ℕ) → r < MOST_REGIONS → get_or result r places.NOWHERE ≡ next_place parts.now journals.now.journals.items r }
 {
     let mut row = [NOWHERE; MOST_REGIONS];
     for region in 0..MOST_REGIONS {
@@ -48,7 +48,7 @@ impl Memory {
     /// there is.
     pub(crate) fn remember(&mut self, t: &Transaction, parts: &PartRecords) -> Result<(), NoMemory>
         requires form { IsTransaction (transaction_value t.now) }
-        requires few { self.old.entries.regions ≤ 8 }
+        requires few { self.old.entries.regions ≤ MOST_REGIONS }
         ensures entries { OnOk result (AddsPlaces parts.now self.new.journals.journals.items self.old.entries self.new.entries) }
         ensures globals { OnOk result (joined self.new.globals ≡ fold apply (joined self.old.globals) t.now.updates) }
         ensures kept { OnErr result (IsSameMemory self.old self.new) }

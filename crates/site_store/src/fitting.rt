@@ -4,13 +4,11 @@ ghost use Rattle.region_store.specs.Joined.{joined};
 ghost use Rattle.site_store.specs.Site.{HasRoomFor};
 
 use crate::error::SiteError;
+use global_defs::limits::MOST_NODES;
 use gvn_globals::Overlay;
 use gvn_model::Updates;
 use region_store::Regions;
 use std::alloc::Global;
-
-/// How many nodes may stand.
-const MOST_NODES: u32 = 100_000;
 
 /// Makes these updates over the globals, and looks after each of them how many nodes there are.
 fn check_each(alloc: Global, globals: &Regions, updates: &Updates) -> Result<(), SiteError>

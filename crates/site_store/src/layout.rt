@@ -1,8 +1,7 @@
 //! What the instance file of a site says of it.
 ghost use Rattle.std.specs.Prelude.{◌≡◌, ◌⊎◌, ◌<◌, ℕ, length, map, Some, None, IfOk, OnErr, IsErrOf};
-ghost use Rattle.instance_file.specs.Values.{named_mode, record_value};
+ghost use Rattle.gvn_model.specs.Regions.{named_region};
 ghost use Rattle.journal_defs.specs.Numbers.{INSTANCE};
-ghost use Rattle.journal_defs.specs.Instance as defs;
 ghost use Rattle.site_files.specs.Loading.{IsDirectory};
 ghost use Rattle.site_store.specs.Finding.{IsLaidOut};
 ghost use Rattle.site_store.specs.Opening.{region_value};
@@ -11,8 +10,8 @@ use crate::error::SiteError;
 use global_dir::Directory;
 use gvn_key::{Bytes, NoMemory};
 use gvn_model::NamedModes;
-use instance_file::InstanceRecord;
-use site_files::{created_name, directory_of, generation_in};
+use instance_file::InstanceRecords;
+use site_files::directory_of;
 use std::alloc::Global;
 
 /// A region's name, and whether its blocks are kept as they were before they change.
@@ -36,8 +35,11 @@ pub struct Layout {
 }
 
 /// Regions as a layout has them.
-fn specs_of(alloc: Global, regions: &[(Bytes, bool)]) -> Result<Vec<RegionSpec>, NoMemory>
-    ensures { IfOk result (λ made. map region_value made.items ≡ map named_mode regions.now) }
+pub(crate) fn specs_of(
+    alloc: Global,
+    regions: &[(Bytes, bool)],
+) -> Result<Vec<RegionSpec>, NoMemory>
+    ensures { IfOk result (λ made. map region_value made.items ≡ map named_region regions.now) }
 {
     let mut made = Vec::new(alloc);
     for (name, before) in regions {
@@ -51,7 +53,7 @@ fn specs_of(alloc: Global, regions: &[(Bytes, bool)]) -> Result<Vec<RegionSpec>,
 
 /// Regions as the instance file takes them.
 pub(crate) fn named_modes(alloc: Global, regions: &[RegionSpec]) -> Result<NamedModes, NoMemory>
-    ensures { IfOk result (λ made. map named_mode made ≡ map region_value regions.now) }
+    ensures { IfOk result (λ made. map named_region made ≡ map region_value regions.now) }
 {
     let mut made = NamedModes::new(alloc);
     for region in regions {
@@ -60,24 +62,11 @@ pub(crate) fn named_modes(alloc: Global, regions: &[RegionSpec]) -> Result<Named
     Ok(made)
 }
 
-/// The regions in a CREATE that these records begin with, or none where they begin with another one.
-pub(crate) fn region_specs(
-    alloc: Global,
-    records: &[InstanceRecord],
-) -> Result<Vec<RegionSpec>, NoMemory>
-    ensures { IfOk result (λ made. map region_value made.items ≡ defs.regions (map record_value records.now)) }
-{
-    match records {
-        [InstanceRecord::Create { regions, .. }, ..] => specs_of(alloc, regions.as_slice()),
-        _ => Ok(Vec::new(alloc)),
-    }
-}
-
 /// The layout that these records give, if there is one. Where they have no region, more than eight, or a MAP of another one they are
 /// no site's.
-pub fn layout_of(alloc: Global, records: &[InstanceRecord]) -> Result<Option<Layout>, SiteError>
-    ensures layout { IfOk result (λ found. IsLaidOut (map record_value records.now) found) }
-    ensures outside { (file offset : ℕ) → IsErrOf result (SiteError.NotAFile file offset) → (0 < length records.now) × IsDirectory (map record_value records.now) None }
+pub fn layout_of(alloc: Global, records: &InstanceRecords) -> Result<Option<Layout>, SiteError>
+    ensures layout { IfOk result (λ found. IsLaidOut records.now found) }
+    ensures outside { (file offset : ℕ) → IsErrOf result (SiteError.NotAFile file offset) → (0 < length records.now) × IsDirectory records.now None }
     ensures place { (file offset : ℕ) → IsErrOf result (SiteError.NotAFile file offset) → (file ≡ INSTANCE) × (offset ≡ 0) }
     ensures causes { OnErr result (((file : ℕ) × (offset : ℕ) × IsErrOf result (SiteError.NotAFile file offset)) ⊎ IsErrOf result SiteError.NoMemory) }
 {
@@ -88,9 +77,9 @@ pub fn layout_of(alloc: Global, records: &[InstanceRecord]) -> Result<Option<Lay
         return Err(SiteError::NotAFile { file: 0, offset: 0 });
     };
     Ok(Some(Layout {
-        name: Bytes::of(alloc, created_name(records))?,
-        regions: region_specs(alloc, records)?,
+        name: Bytes::of(alloc, records.name())?,
+        regions: specs_of(alloc, records.regions())?,
         directory,
-        generation: generation_in(records),
+        generation: records.generation(),
     }))
 }

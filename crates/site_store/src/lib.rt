@@ -39,4 +39,3 @@ pub use preparing::{FoundFiles, StandingSite, find_files, stand};
 pub use reading::read_file;
 pub use showing::write_entry;
 pub use site::Site;
-pub use site_files::created_name;

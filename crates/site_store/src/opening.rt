@@ -1,5 +1,6 @@
 //! Opening a site.
 ghost use Rattle.std.specs.Prelude.{◌≡◌, ◌≤◌, ◌<◌, ℕ, List, true, false, length, map, IfOk, IfSome, OnOk, IsErrOf, IsSome};
+ghost use Rattle.site_defs.specs.Limits.{LAST_GENERATION};
 ghost use Rattle.disk_defs.specs.Disk.{Image, AtEachMoment, MayFail};
 ghost use Rattle.journal_defs.specs.Instance as defs;
 ghost use Rattle.journal_defs.specs.Instance.{generation};
@@ -59,9 +60,9 @@ pub fn open_as<D: Disk>(alloc: Global, disk: &mut D, anew: bool) -> Result<Memor
     ensures found { IfOk result (λ s. IfSome (D.disk disk.old).content (λ files. (u : Records) (seq : Sequence) → AreRecords files u → IsSequence u seq → WasOpenedFrom u seq s)) }
     ensures held { IfOk result (λ s. IfSome (D.disk disk.old).content (λ files. (u : Records) × (seq : Sequence) × AreRecords files u × IsSequence u seq × WasOpenedFrom u seq s × (anew ≡ false → NoneIsWithout u (length seq)))) }
     ensures opened { IfOk result WasOpened }
-    ensures drawn { OnOk result (IfSome (D.disk disk.old).content (λ files. (rs : List defs.InstanceRecord) → IsInstance (files INSTANCE) rs → generation rs < 65534)) }
-    ensures limit { IsErrOf result SiteError.GenLimit → IfSome (D.disk disk.old).content (λ files. (rs : List defs.InstanceRecord) → IsInstance (files INSTANCE) rs → 65534 ≤ generation rs) }
-    ensures limit_told { IsErrOf result SiteError.GenLimit → IfSome (D.disk disk.old).content (λ files. (rs : List defs.InstanceRecord) × IsInstance (files INSTANCE) rs × (65534 ≤ generation rs)) }
+    ensures drawn { OnOk result (IfSome (D.disk disk.old).content (λ files. (rs : List defs.InstanceRecord) → IsInstance (files INSTANCE) rs → generation rs < LAST_GENERATION)) }
+    ensures limit { IsErrOf result SiteError.GenLimit → IfSome (D.disk disk.old).content (λ files. (rs : List defs.InstanceRecord) → IsInstance (files INSTANCE) rs → LAST_GENERATION ≤ generation rs) }
+    ensures limit_told { IsErrOf result SiteError.GenLimit → IfSome (D.disk disk.old).content (λ files. (rs : List defs.InstanceRecord) × IsInstance (files INSTANCE) rs × (LAST_GENERATION ≤ generation rs)) }
     ensures needs { (region : ℕ) → IsErrOf result (SiteError.NeedForward region) → IfSome (D.disk disk.old).content (λ files. HaveFirstWithout files region) }
     ensures needs_unwritten { (region : ℕ) → IsErrOf result (SiteError.NeedForward region) → IsUnwritten (D.disk disk.old) (D.disk disk.new) }
     ensures needs_none { anew ≡ true → (region : ℕ) → IsErrOf result (SiteError.NeedForward region) → ⊥ }

@@ -1,5 +1,6 @@
 //! A site as it stands on a disk, before anything is written.
-ghost use Rattle.std.specs.Prelude.{◌≡◌, ◌⊎◌, ◌≤◌, ◌<◌, ◌++◌, ◌∷◌, [], ℕ, List, true, map, min, IfOk, IfSome, OnOk, OnErr, IsErrOf};
+ghost use Rattle.std.specs.Prelude.{◌≡◌, ◌⊎◌, ◌≤◌, ◌<◌, ◌++◌, ◌∷◌, [], ℕ, List, true, min, IfOk, IfSome, OnOk, OnErr, IsErrOf};
+ghost use Rattle.site_defs.specs.Limits.{LAST_GENERATION};
 ghost use Rattle.disk_defs.specs.Disk.{Image, Reads, AtEachMoment, MayFail};
 ghost use Rattle.journal_defs.specs.Instance as defs;
 ghost use Rattle.journal_defs.specs.Instance.{generation};
@@ -7,7 +8,6 @@ ghost use Rattle.journal_defs.specs.Numbers.{INSTANCE};
 ghost use Rattle.journal_defs.specs.Sequence.{Placed};
 ghost use Rattle.journal_defs.specs.Stands.{IsInstance};
 ghost use Rattle.journal_defs.specs.Fit.{IsSoundImage};
-ghost use Rattle.instance_file.specs.Values.{record_value};
 ghost use Rattle.site_defs.specs.Contents.{Contents};
 ghost use Rattle.site_defs.specs.Stands.{IsSite};
 ghost use Rattle.site_defs.specs.Outside.{IsOutsideSite};
@@ -20,19 +20,17 @@ ghost use Rattle.entry_index.specs.Found.{entry_count};
 ghost use Rattle.site_store.specs.Standing.{HasFound, WasFound, IsFoundAs, IsOpenFor, IsOpenAs, IfFound, Stood, found_records, found_signs};
 
 use crate::error::SiteError;
-use crate::layout::{Layout, region_specs};
+use crate::layout::{Layout, specs_of};
 use crate::needing::first_needing;
 use crate::syncing::{sync_databases, sync_texts};
 use entry_index::EntryIndex;
 use global_dir::Directory;
 use gvn_key::{Bytes, NoMemory};
-use instance_file::{InstanceLog, InstanceRecord};
+use instance_file::{InstanceLog, InstanceRecords};
 use region_opening::{open_regions, rebuild_regions};
 use region_store::Regions;
 use repl_disk::Disk;
-use site_files::{
-    ReadEntries, ReadSite, Remembered, created_name, generation_in, read_site, remember_all,
-};
+use site_files::{ReadEntries, ReadSite, Remembered, read_site, remember_all};
 use std::alloc::Global;
 
 /// A target that stands for all entries, however many these are.
@@ -69,18 +67,18 @@ pub struct StandingSite {
 /// The layout of a site with these records and this directory, once the next generation is drawn.
 fn next_layout(
     alloc: Global,
-    records: &[InstanceRecord],
+    records: &InstanceRecords,
     directory: Directory,
 ) -> Result<Layout, NoMemory>
-    requires directory { directory ≡ mapping_of (map record_value records.now) }
-    requires room { generation (map record_value records.now) < 65534 }
-    ensures { IfOk result (λ made. (n : ℕ) → HasLayout (map record_value records.now ++ next_cut (map record_value records.now) n ∷ []) made) }
+    requires directory { directory ≡ mapping_of records.now }
+    requires room { generation records.now < LAST_GENERATION }
+    ensures { IfOk result (λ made. (n : ℕ) → HasLayout (records.now ++ next_cut records.now n ∷ []) made) }
 {
     Ok(Layout {
-        name: Bytes::of(alloc, created_name(records))?,
-        regions: region_specs(alloc, records)?,
+        name: Bytes::of(alloc, records.name())?,
+        regions: specs_of(alloc, records.regions())?,
         directory,
-        generation: generation_in(records) + 1,
+        generation: records.generation() + 1,
     })
 }
 
@@ -99,8 +97,8 @@ pub fn find_files<D: Disk>(
     ensures has { IfOk result HasFound }
     ensures lowest { IfOk result (λ found. found.read.lowest ≡ lowest) }
     ensures found { IfOk result (WasFound (D.disk disk.old) (D.disk disk.new)) }
-    ensures limit { IsErrOf result SiteError.GenLimit → IfSome (D.disk disk.old).content (λ files. (rs : List defs.InstanceRecord) → IsInstance (files INSTANCE) rs → 65534 ≤ generation rs) }
-    ensures limit_told { IsErrOf result SiteError.GenLimit → IfSome (D.disk disk.old).content (λ files. (rs : List defs.InstanceRecord) × IsInstance (files INSTANCE) rs × (65534 ≤ generation rs)) }
+    ensures limit { IsErrOf result SiteError.GenLimit → IfSome (D.disk disk.old).content (λ files. (rs : List defs.InstanceRecord) → IsInstance (files INSTANCE) rs → LAST_GENERATION ≤ generation rs) }
+    ensures limit_told { IsErrOf result SiteError.GenLimit → IfSome (D.disk disk.old).content (λ files. (rs : List defs.InstanceRecord) × IsInstance (files INSTANCE) rs × (LAST_GENERATION ≤ generation rs)) }
     ensures place { (file offset : ℕ) → IsErrOf result (SiteError.NotAFile file offset) → IfSome (D.disk disk.old).content (λ files. IsOutsideSite files file offset) }
     ensures outside { (file offset : ℕ) → IsErrOf result (SiteError.NotAFile file offset) → IfSome (D.disk disk.old).content (λ files. (c : Contents) → IsSite files c → ⊥) }
     ensures content { (D.disk disk.new).content ≡ (D.disk disk.old).content }
@@ -111,7 +109,7 @@ pub fn find_files<D: Disk>(
 {
     let found = read_site(alloc, disk, lowest)?;
     let ReadEntries { read, entries } = found;
-    sync_texts(disk, generation_in(read.log.records.as_slice()))?;
+    sync_texts(disk, read.log.records.generation())?;
     sync_databases(disk, u32::from(read.directory.regions()))?;
     let remembered = remember_all(alloc, disk, &read, entries)?;
     let Remembered { entries, broken } = remembered;
@@ -139,7 +137,7 @@ fn stand_on(alloc: Global, found: FoundFiles, globals: Regions) -> Result<Standi
         last_began,
         ..
     } = read;
-    let layout = next_layout(alloc, log.records.as_slice(), directory)?;
+    let layout = next_layout(alloc, &log.records, directory)?;
     Ok(StandingSite {
         log,
         layout,
@@ -239,8 +237,8 @@ pub(crate) fn read_standing<D: Disk>(
     anew: bool,
 ) -> Result<StandingSite, SiteError>
     ensures stood { IfOk result (Stood anew (D.disk disk.old) (D.disk disk.new)) }
-    ensures limit { IsErrOf result SiteError.GenLimit → IfSome (D.disk disk.old).content (λ files. (rs : List defs.InstanceRecord) → IsInstance (files INSTANCE) rs → 65534 ≤ generation rs) }
-    ensures limit_told { IsErrOf result SiteError.GenLimit → IfSome (D.disk disk.old).content (λ files. (rs : List defs.InstanceRecord) × IsInstance (files INSTANCE) rs × (65534 ≤ generation rs)) }
+    ensures limit { IsErrOf result SiteError.GenLimit → IfSome (D.disk disk.old).content (λ files. (rs : List defs.InstanceRecord) → IsInstance (files INSTANCE) rs → LAST_GENERATION ≤ generation rs) }
+    ensures limit_told { IsErrOf result SiteError.GenLimit → IfSome (D.disk disk.old).content (λ files. (rs : List defs.InstanceRecord) × IsInstance (files INSTANCE) rs × (LAST_GENERATION ≤ generation rs)) }
     ensures place { (file offset : ℕ) → IsErrOf result (SiteError.NotAFile file offset) → IfSome (D.disk disk.old).content (λ files. IsOutsideOpening files file offset) }
     ensures place_anew { anew ≡ true → (file offset : ℕ) → IsErrOf result (SiteError.NotAFile file offset) → IfSome (D.disk disk.old).content (λ files. IsOutsideSite files file offset) }
     ensures outside { (file offset : ℕ) → IsErrOf result (SiteError.NotAFile file offset) → IfSome (D.disk disk.old).content (λ files. (c : Contents) → IsSite files c → ⊥) }

@@ -1,5 +1,6 @@
 //! Beginning a reign.
 ghost use Rattle.std.specs.Prelude.{◌≡◌, ◌⊎◌, ◌<◌, ◌^◌, ◌++◌, ◌∷◌, [], ℕ, Bool, true, length, Some, IfOk, IfSome, OnOk, OnErr, IsErrOf, IsSome};
+ghost use Rattle.global_defs.specs.declared.limits.TheConstants.{NUMBERS_END};
 ghost use Rattle.disk_defs.specs.Disk.{Image, AtEachMoment, MayFail};
 ghost use Rattle.gvn_model.specs.Reigns.{stamp_value, reign_value};
 ghost use Rattle.journal_defs.specs.Instance.{Reigned, site_name};
@@ -12,20 +13,17 @@ ghost use Rattle.site_store.specs.Reigning.{IsNextReign, HasReignLeft, HasNoReig
 
 use crate::error::SiteError;
 use crate::memory::Memory;
+use global_defs::limits::MOST_REIGNS;
 use gvn_key::Bytes;
 use gvn_model::{Reign, Stamp};
 use instance_file::InstanceError;
 use repl_disk::Disk;
-use site_files::created_name;
 use std::alloc::Global;
-
-/// How many reigns may begin by the length.
-const MOST_REIGNS: usize = 32_768;
 
 impl Memory {
     /// The reign that begins behind the last entry, under the site's own name and the next cycle.
     pub(crate) fn next_reign(&self, alloc: Global) -> Result<Reign, SiteError>
-        requires { count_of self.now < 2 ^ 40 }
+        requires { count_of self.now < NUMBERS_END }
         ensures reign { IfOk result (λ r. IsNextReign self.now (reign_value r)) }
         ensures room { OnOk result (HasReignLeft self.now) }
         ensures limit { IsErrOf result SiteError.ReignLimit → HasNoReignLeft self.now }
@@ -38,7 +36,7 @@ impl Memory {
             return Err(SiteError::ReignLimit);
         };
         let stamp = Stamp {
-            root: Bytes::of(alloc, created_name(self.instance.records().as_slice()))?,
+            root: Bytes::of(alloc, self.instance.records().name())?,
             cycle,
         };
         Ok(Reign {

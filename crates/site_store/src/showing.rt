@@ -1,6 +1,7 @@
 //! What an open site shows: its entries and its nodes, as text.
 ghost use Rattle.std.specs.Prelude.{◌≡◌, ◌⊎◌, ◌≤◌, ◌<◌, ◌-◌, ◌++◌, ℕ, map, slice_get, IfSome, OnOk, OnErr, IsErrOf};
 ghost use Rattle.std.specs.List.{flat_map};
+ghost use Rattle.global_defs.specs.declared.limits.TheConstants.{MOST_REGIONS};
 ghost use Rattle.disk_defs.specs.Disk.{Reads, MayFail};
 ghost use Rattle.global_defs.specs.Entry.{Entry, Sequence};
 ghost use Rattle.global_defs.specs.Extract.{entry_text};
@@ -48,7 +49,7 @@ pub fn write_entry<D: Disk>(
 ) -> Result<(), SiteError>
     requires starts { AreStarts history.now starts.now }
     requires first { 1 ≤ number }
-    requires regions { entries.now.regions ≤ 8 }
+    requires regions { entries.now.regions ≤ MOST_REGIONS }
     ensures entry { OnOk result (IfSome (D.disk disk.old).content (λ files. (seq : Sequence) → Indexes (InFiles files) history.now entries.now seq → IfSome (slice_get seq (number - 1)) (λ e. out.new ≡ out.old ++ entry_text number e))) }
     // whatever the disk tells, there are lines of an entry
     ensures some { OnOk result (number ≤ entry_count entries.now → (e : Entry) × (out.new ≡ out.old ++ entry_text number e)) }

@@ -3,6 +3,7 @@ ghost use Rattle.std.specs.Prelude.{◌≡◌, ◌⊎◌, ◌≤◌, ◌<◌, �
 ghost use Rattle.std.specs.Result.{IsOk};
 ghost use Rattle.std.specs.Option.{option_copied};
 ghost use Rattle.std.specs.FinMap as globals;
+ghost use Rattle.global_defs.specs.declared.limits.TheConstants.{NUMBERS_END};
 ghost use Rattle.disk_defs.specs.Disk.{Files, Image, AtEachMoment, Reads, MayFail};
 ghost use Rattle.disk_defs.specs.Gates.{records};
 ghost use Rattle.global_defs.specs.Prefix.{IsPrefix};
@@ -26,7 +27,7 @@ ghost use Rattle.mupip_recover.specs.Stamps.{AreStarts};
 ghost use Rattle.site_defs.specs.Behind.{IsSiteWith, IsFrontLeft};
 ghost use Rattle.site_defs.specs.Contents.{Contents, Leftover, Standing, NO_LEFTOVER, bare};
 ghost use Rattle.site_defs.specs.Texts.{zwrite};
-ghost use Rattle.site_defs.specs.Limits.{no_reign_left};
+ghost use Rattle.site_defs.specs.Limits.{LAST_GENERATION, no_reign_left};
 ghost use Rattle.site_defs.specs.Opening.{opened, MayOpen, with_reign, next_stamp};
 ghost use Rattle.site_defs.specs.Fronts.{with_sequence, IsFrontOf};
 ghost use Rattle.site_defs.specs.Epochs.{marked, MayMark, MayMarkLeft};
@@ -59,7 +60,7 @@ use site_files::sync_instance;
 use std::alloc::Global;
 
 /// The last number that an entry may have.
-const LAST_NUMBER: u64 = (1 << 40) - 1;
+const LAST_NUMBER: u64 = global_defs::limits::NUMBERS_END - 1;
 
 /// A site that is open, and its disk.
 ///
@@ -179,9 +180,9 @@ impl<D: Disk> Site<D> {
         ensures found { IfOk result (λ s. IfSome (D.disk disk).content (λ files. (u : Records) (seq : Sequence) → AreRecords files u → IsSequence u seq → WasOpenedFrom u seq (memory_of s))) }
         ensures held { IfOk result (λ s. IfSome (D.disk disk).content (λ files. (u : Records) × (seq : Sequence) × AreRecords files u × IsSequence u seq × WasOpenedFrom u seq (memory_of s) × NoneIsWithout u (length seq))) }
         ensures opened { IfOk result (λ s. WasOpened (memory_of s)) }
-        ensures drawn { OnOk result (IfSome (D.disk disk).content (λ files. (rs : List instances.InstanceRecord) → IsInstance (files INSTANCE) rs → generation rs < 65534)) }
-        ensures limit { FailsWith result SiteError.GenLimit → IfSome (D.disk disk).content (λ files. (rs : List instances.InstanceRecord) → IsInstance (files INSTANCE) rs → 65534 ≤ generation rs) }
-        ensures limit_told { FailsWith result SiteError.GenLimit → IfSome (D.disk disk).content (λ files. (rs : List instances.InstanceRecord) × IsInstance (files INSTANCE) rs × (65534 ≤ generation rs)) }
+        ensures drawn { OnOk result (IfSome (D.disk disk).content (λ files. (rs : List instances.InstanceRecord) → IsInstance (files INSTANCE) rs → generation rs < LAST_GENERATION)) }
+        ensures limit { FailsWith result SiteError.GenLimit → IfSome (D.disk disk).content (λ files. (rs : List instances.InstanceRecord) → IsInstance (files INSTANCE) rs → LAST_GENERATION ≤ generation rs) }
+        ensures limit_told { FailsWith result SiteError.GenLimit → IfSome (D.disk disk).content (λ files. (rs : List instances.InstanceRecord) × IsInstance (files INSTANCE) rs × (LAST_GENERATION ≤ generation rs)) }
         ensures needs { (region : ℕ) → FailsWith result (SiteError.NeedForward region) → IfSome (D.disk disk).content (λ files. HaveFirstWithout files region) }
         ensures needs_unwritten { (region : ℕ) → FailsWith result (SiteError.NeedForward region) → IsUnwritten (D.disk disk) (D.disk (disk_left result)) }
         ensures unwritten { FailsWith result SiteError.GenLimit → (D.disk (disk_left result)).content ≡ (D.disk disk).content }
@@ -233,7 +234,7 @@ impl<D: Disk> Site<D> {
 
     /// The next reign, and a copy of it, its stamp for the site and for the caller.
     fn next_reign(&self) -> Result<NextReign, SiteError>
-        requires few { count_of (memory_of self.now) < 2 ^ 40 }
+        requires few { count_of (memory_of self.now) < NUMBERS_END }
         ensures next { IfOk result (λ n. IsNextReign (memory_of self.now) (reign_value n.reign)) }
         ensures stamp { IfOk result (λ n. stamp_value n.stamp ≡ (reign_value n.reign).stamp) }
         ensures kept { IfOk result (λ n. n.kept ≡ n.stamp) }
@@ -329,10 +330,10 @@ impl<D: Disk> Site<D> {
         ensures instance { (memory_of self.new).instance ≡ (memory_of self.old).instance }
         ensures stamp { (memory_of self.new).stamp ≡ (memory_of self.old).stamp }
         ensures reign { OnOk result (HasReign (memory_of self.new)) }
-        ensures room { OnOk result (count_of (memory_of self.old) + 1 < 2 ^ 40) }
+        ensures room { OnOk result (count_of (memory_of self.old) + 1 < NUMBERS_END) }
         ensures fits { OnOk result (HasRoomFor (joined (memory_of self.old).globals) t.now.updates) }
         ensures full { (nodes : ℕ) → IsErrOf result (SiteError.Full nodes) → HasRoomFor (joined (memory_of self.old).globals) t.now.updates → ⊥ }
-        ensures last { IsErrOf result SiteError.SeqLimit → 2 ^ 40 ≤ count_of (memory_of self.old) + 1 }
+        ensures last { IsErrOf result SiteError.SeqLimit → NUMBERS_END ≤ count_of (memory_of self.old) + 1 }
         ensures kept { ((nodes : ℕ) × IsErrOf result (SiteError.Full nodes)) ⊎ IsErrOf result SiteError.SeqLimit → self.new ≡ self.old }
         ensures unmade { IsErrOf result SiteError.NoMemory → IsSameMemory (memory_of self.old) (memory_of self.new) }
         ensures goes_on { IsErrOf result SiteError.NoMemory → IsGoing D.disk self.new }

@@ -1,17 +1,13 @@
 //! Files that are synced before a site is opened.
 ghost use Rattle.std.specs.Prelude.{◌≡◌, ◌⊎◌, ◌≤◌, ◌<◌, ℕ, IfSome, OnOk, OnErr, IsErrOf};
+ghost use Rattle.global_defs.specs.declared.limits.TheConstants.{MOST_GENERATIONS, MOST_REGIONS};
 ghost use Rattle.disk_defs.specs.Disk.{Image, IsDurable, AtEachMoment, MayFail};
 ghost use Rattle.site_store.specs.Opening.{AreBothDurable, AreTextsDurable, AreDatabasesDurable};
 
 use crate::error::SiteError;
 use gated_file::{GateError, sync_file};
+use journal_defs::files::{BROKEN_FILES, DATABASE_FILES, LOST_FILES};
 use repl_disk::Disk;
-
-/// The lost-transaction file of a generation has the generation's number behind this one.
-const LOST_FILES: u32 = 1_000_000;
-
-/// The broken-transaction file of a generation has the generation's number behind this one.
-const BROKEN_FILES: u32 = 2_000_000;
 
 /// Syncs a file that isn't read by gates.
 fn sync_whole<D: Disk>(disk: &mut D, file: u32) -> Result<(), SiteError>
@@ -33,7 +29,7 @@ fn sync_whole<D: Disk>(disk: &mut D, file: u32) -> Result<(), SiteError>
 
 /// Syncs the broken-transaction file and the lost-transaction file of a generation.
 fn sync_both<D: Disk>(disk: &mut D, generation: u32) -> Result<(), SiteError>
-    requires { generation ≤ 65535 }
+    requires { generation ≤ MOST_GENERATIONS }
     ensures durable { OnOk result (IfSome (D.disk disk.old).content (AreBothDurable (D.disk disk.new) generation)) }
     ensures content { (D.disk disk.new).content ≡ (D.disk disk.old).content }
     ensures any_moment { AtEachMoment (D.disk disk.old) (D.disk disk.new) (Image (D.disk disk.old)) }
@@ -47,7 +43,7 @@ fn sync_both<D: Disk>(disk: &mut D, generation: u32) -> Result<(), SiteError>
 
 /// Syncs the broken-transaction and the lost-transaction files of the first generations.
 pub(crate) fn sync_texts<D: Disk>(disk: &mut D, generations: u32) -> Result<(), SiteError>
-    requires { generations < 65535 }
+    requires { generations < MOST_GENERATIONS }
     ensures durable { OnOk result (IfSome (D.disk disk.old).content (AreTextsDurable (D.disk disk.new) generations)) }
     ensures content { (D.disk disk.new).content ≡ (D.disk disk.old).content }
     ensures any_moment { AtEachMoment (D.disk disk.old) (D.disk disk.new) (Image (D.disk disk.old)) }
@@ -63,7 +59,7 @@ pub(crate) fn sync_texts<D: Disk>(disk: &mut D, generations: u32) -> Result<(), 
 
 /// Syncs the database files of the first regions.
 pub(crate) fn sync_databases<D: Disk>(disk: &mut D, regions: u32) -> Result<(), SiteError>
-    requires { regions ≤ 8 }
+    requires { regions ≤ MOST_REGIONS }
     ensures durable { OnOk result (IfSome (D.disk disk.old).content (AreDatabasesDurable (D.disk disk.new) regions)) }
     ensures content { (D.disk disk.new).content ≡ (D.disk disk.old).content }
     ensures any_moment { AtEachMoment (D.disk disk.old) (D.disk disk.new) (Image (D.disk disk.old)) }
@@ -72,7 +68,7 @@ pub(crate) fn sync_databases<D: Disk>(disk: &mut D, regions: u32) -> Result<(), 
     ensures causes { OnErr result (((fault : ℕ) × IsErrOf result (SiteError.Failed fault)) ⊎ IsErrOf result SiteError.NoMemory) }
 {
     for region in 0..regions {
-        sync_whole(disk, 1 + region)?;
+        sync_whole(disk, DATABASE_FILES + region)?;
     }
     Ok(())
 }

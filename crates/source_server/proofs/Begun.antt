@@ -1,14 +1,15 @@
 -- Reigns in order, by how many of them have begun below a number.
-use Rattle.std.proofs.Common.{◌≡◌, ◌≢◌, ◌⊎◌, inl, inr, ℕ, zero, suc, ◌+◌, ◌-◌, ◌<◌, ◌≤◌, ◌==◌, nat_le, Bool, true, false, List, [], ◌∷◌, ◌++◌, length, get_or, take, drop, Option, Some, None, refl, sym, ap, subst, ◌∙◌, arith, append-nil, if◌then◌else◌}
+use Rattle.std.proofs.Common.{◌≡◌, ◌≢◌, ◌⊎◌, inl, inr, ℕ, zero, suc, ◌+◌, ◌-◌, ◌<◌, ◌≤◌, ◌==◌, nat_le, Bool, true, false, List, [], ◌∷◌, ◌++◌, length, get_or, take, drop, Some, None, refl, sym, ap, subst, ◌∙◌, arith, append-nil, if◌then◌else◌}
 use Rattle.std.specs.List.{AllByRecursion, last_or}
 use Rattle.std.proofs.lemmas.Bool.Decides.{nat_tests}
 use Rattle.std.proofs.lemmas.List.{take_more, take-append-drop, length-take-le}
 use Rattle.std.proofs.lemmas.List.Elements.{filter-append}
 use Rattle.std.proofs.Math.Seq.{drop-cons}
 use Rattle.global_defs.specs.Entry.{Reign}
-use Rattle.lineage_defs.specs.Histories.{begun_by, StartsRise}
+use Rattle.global_defs.specs.Rising.{StartsRise, begun_by}
 use Rattle.wire_defs.specs.Frames.{History}
 use Rattle.ship_defs.specs.Shipping.{reign_at, announced}
+use Rattle.global_defs.proofs.Basics.{last_or_push}
 
 -- starts rise past a number from the first reign that begins past it
 pub rise_from : (low n i : ℕ) (rs : List Reign) (d : Reign) → StartsRise low rs → i < length rs → n < (get_or rs i d).start → StartsRise n (drop i rs)
@@ -61,10 +62,6 @@ none_yet_from n low (x ∷ xs) le rise =
 none_yet : (n : ℕ) (xs : List Reign) → StartsRise n xs → begun_by n xs ≡ []
 none_yet n xs rise = none_yet_from n n xs (omega arith) rise
 
-pub last_push : (o : Option Reign) (xs : List Reign) (y : Reign) → last_or o (xs ++ y ∷ []) ≡ Some y
-last_push o [] y = refl
-last_push o (x ∷ xs) y = last_push (Some x) xs y
-
 -- the reign of a number, by those that begin below it and the next one
 pub at_next : (n i : ℕ) (rs : List Reign) (d : Reign) → i < length rs → (get_or rs i d).start ≡ n → AllByRecursion (λ r. r.start < n) (take i rs) → StartsRise n (drop (i + 1) rs) → reign_at n rs ≡ Some (get_or rs i d)
 at_next n i rs d lt at earlier later =
@@ -75,7 +72,7 @@ at_next n i rs d lt at earlier later =
     let all : begun_by n rs ≡ take i rs ++ y ∷ []
     = ap (begun_by n) (sym (take-append-drop (i + 1) rs)) ∙ (filter-append (λ r. nat_le r.start n) (take (i + 1) rs) (drop (i + 1) rs)
     ∙ (ap (λ (l : List Reign). begun_by n (take (i + 1) rs) ++ l) (none_yet n (drop (i + 1) rs) later) ∙ (append-nil (begun_by n (take (i + 1) rs)) ∙ front))) in
-    ap (last_or None) all ∙ last_push None (take i rs) y
+    ap (last_or None) all ∙ last_or_push None (take i rs) y
 
 pub at_earlier : (n i : ℕ) (rs : List Reign) → AllByRecursion (λ r. r.start < n) (take i rs) → StartsRise n (drop i rs) → reign_at n rs ≡ last_or None (take i rs)
 at_earlier n i rs earlier later =
@@ -86,7 +83,7 @@ pub last_take : (i : ℕ) (rs : List Reign) (d : Reign) → 0 < i → i ≤ leng
 last_take i rs d some within =
     let is : i ≡ i - 1 + 1 = omega arith in
     let lt : i - 1 < length rs = omega arith in
-    ap (λ (k : ℕ). last_or None (take k rs)) is ∙ (ap (last_or None) (take_more rs (i - 1) d lt) ∙ last_push None (take (i - 1) rs) (get_or rs (i - 1) d))
+    ap (λ (k : ℕ). last_or None (take k rs)) is ∙ (ap (last_or None) (take_more rs (i - 1) d lt) ∙ last_or_push None (take (i - 1) rs) (get_or rs (i - 1) d))
 
 pub all_at : (P : Reign → Type 0) (rs : List Reign) (i : ℕ) (d : Reign) → AllByRecursion P rs → i < length rs → P (get_or rs i d)
 all_at P [] i d h lt = absurd (omega arith)

@@ -1,9 +1,10 @@
 -- What contracts see of a Source Server.
-use Rattle.std.specs.Prelude.{◌≡◌, ◌⊎◌, ℕ, ◌+◌, ◌-◌, ◌<◌, ◌≤◌, ◌^◌, ◌==◌, Bool, true, false, List, [], ◌∷◌, ◌++◌, length, drop, take}
+use Rattle.std.specs.Prelude.{◌≡◌, ◌⊎◌, ℕ, ◌+◌, ◌-◌, ◌<◌, ◌≤◌, ◌==◌, Bool, true, false, List, [], ◌∷◌, ◌++◌, length, drop, take}
 use Rattle.std.specs.List.{AllByRecursion}
+use Rattle.global_defs.specs.declared.limits.TheConstants.{NUMBERS_END}
 use Rattle.global_defs.specs.Entry.{Reign}
 use Rattle.global_defs.specs.Fields.{IsReign}
-use Rattle.lineage_defs.specs.Histories.{StartsRise}
+use Rattle.global_defs.specs.Rising.{StartsRise}
 use Rattle.wire_defs.specs.Frames.{Bye, spelled_frame, stream}
 use Rattle.ship_defs.specs.Shipping.{reign_at, announced, entry_frame, resumed_bytes}
 
@@ -56,13 +57,13 @@ pub record HasShipped (s : Shipping) (sent : List ℕ) (from : ℕ) (entries : L
 
 -- something can be sent, or an entry that a source is ready to give can be taken
 abbrev pub CanShip : (Ready : ℕ → Type 0) → Shipping → Type 0
-CanShip Ready s = (0 < length s.pending) ⊎ ((s.ended ≡ false) × (s.next < 2 ^ 40) × Ready s.next)
+CanShip Ready s = (0 < length s.pending) ⊎ ((s.ended ≡ false) × (s.next < NUMBERS_END) × Ready s.next)
 
 -- What a Source Server keeps of its fields. The first `begun` reigns begin below the next number, and the others, in order, no earlier than it.
 pub record IsSound (reigns : List Reign) (begun next at : ℕ) (made : List ℕ) : Type 0 where
   pub form : AllByRecursion IsReign reigns
   pub least : 1 ≤ next
-  pub most : next ≤ 2 ^ 40
+  pub most : next ≤ NUMBERS_END
   pub inside : at ≤ length made
   pub within : begun ≤ length reigns
   pub earlier : AllByRecursion (λ r. r.start < next) (take begun reigns)

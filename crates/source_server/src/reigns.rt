@@ -3,8 +3,8 @@ ghost use Rattle.std.specs.Prelude.{◌≡◌, ◌-◌, ◌+◌, ◌<◌, ◌≤
 ghost use Rattle.std.specs.List.{AllByRecursion};
 ghost use Rattle.global_defs.specs.Entry as defs;
 ghost use Rattle.global_defs.specs.Fields.{IsReign};
+ghost use Rattle.global_defs.specs.Rising.{StartsRise};
 ghost use Rattle.gvn_model.specs.Reigns.{reign_value};
-ghost use Rattle.lineage_defs.specs.Histories.{StartsRise};
 ghost use Rattle.ship_defs.specs.Shipping.{reign_at, announced};
 ghost use Rattle.source_server.specs.Framing.{histories};
 

@@ -2,8 +2,8 @@
 ghost use Rattle.std.specs.Prelude.{◌≡◌, ◌⊎◌, ◌+◌, ◌-◌, ◌<◌, ◌≤◌, ◌^◌, ◌==◌, ◌++◌, ℕ, List, [], length, drop, map, true, false, IsTrue, IsErr, IfOk, OnOk, OnErr, IsErrOf};
 ghost use Rattle.std.specs.List.{AllByRecursion};
 ghost use Rattle.global_defs.specs.Fields.{IsReign};
+ghost use Rattle.global_defs.specs.Rising.{StartsRise};
 ghost use Rattle.gvn_model.specs.Entries.{history_value};
-ghost use Rattle.lineage_defs.specs.Histories.{StartsRise};
 ghost use Rattle.wire_defs.specs.Frames.{Bye, spelled_frame};
 ghost use Rattle.wire_defs.specs.Links.{SameSending, IsReached, counted};
 ghost use Rattle.source_server.specs.Sources.{Shipping, resumed_at, made_of, HasSent, Goes, CanShip};
@@ -11,6 +11,7 @@ ghost use Rattle.source_server.specs.Sources.{Shipping, resumed_at, made_of, Has
 use super::entries::EntrySource;
 use super::framing::write_next;
 use super::reigns::{announced_reign, begun_behind, begun_below};
+use global_defs::limits::NUMBERS_END;
 use gvn_key::{Bytes, NoMemory};
 use gvn_model::{History, Reigns};
 use repl_link::{Cut, LinkTx};
@@ -48,9 +49,6 @@ fn bye(length: u64) -> [u8; 13]
     [6, 0, 0, 0, 8, a, b, c, d, e, f, g, h]
 }
 
-// The number behind the last one that an entry may have.
-const NUMBERS_END: u64 = 1 << 40;
-
 /// Ships a primary's entries over one connection. It keeps the frames of one entry at most, whatever was shipped.
 #[derive(Drop)]
 pub struct Source {
@@ -81,7 +79,7 @@ impl Model for Source {
 impl Source {
     /// Behind the RESUME from that number, over a primary's reigns.
     pub fn new(alloc: Global, theirs: &History, from: u64) -> Result<Source, NoMemory>
-        requires from { (1 ≤ from) × (from ≤ 2 ^ 40) }
+        requires from { (1 ≤ from) × (from ≤ NUMBERS_END) }
         requires form { AllByRecursion IsReign (history_value theirs.now).reigns }
         requires rising { StartsRise 0 (history_value theirs.now).reigns }
         ensures { IfOk result (λ s. s ≡ resumed_at (history_value theirs.now).reigns from) }
@@ -122,7 +120,7 @@ impl Source {
 
     // The next entry was taken.
     fn pass(&mut self)
-        requires { self.old.next < 2 ^ 40 }
+        requires { self.old.next < NUMBERS_END }
         ensures { self.new ≡ record self.old { next = self.old.next + 1; first = false } }
     {
         self.begun = begun_behind(self.reigns.as_slice(), self.begun, self.next);
@@ -156,14 +154,14 @@ impl Source {
         entry: &mut Bytes,
     ) -> Result<bool, ShipError<E::Error>>
         requires nothing { self.old.pending ≡ [] }
-        requires few { self.old.next < 2 ^ 40 }
+        requires few { self.old.next < NUMBERS_END }
         requires going { self.old.ended ≡ false }
         ensures kept { (n : ℕ) (entry : List ℕ) → E.is_entry entries.old n entry → E.is_entry entries.new n entry }
         ensures still { (n : ℕ) → E.ready entries.old n → E.ready entries.new n }
         ensures taken { IfOk result (λ b. IsTrue b → (entry : List ℕ) × E.is_entry entries.new self.old.next entry
             × (self.new ≡ record self.old { next = self.old.next + 1; first = false; pending = made_of self.old entry })) }
         ensures not_yet { IfOk result (λ b. b ≡ false → self.new ≡ self.old) }
-        ensures ready { self.old.next < 2 ^ 40 → E.ready entries.old self.old.next → IfOk result (λ b. IsTrue b) }
+        ensures ready { self.old.next < NUMBERS_END → E.ready entries.old self.old.next → IfOk result (λ b. IsTrue b) }
         ensures err { OnErr result (self.new ≡ self.old) }
         ensures uncut { IsErrOf result ShipError.Cut → ⊥ }
     {
@@ -189,7 +187,7 @@ impl Source {
         ensures taken { IfOk result (λ b. IsTrue b → (entry : List ℕ) × E.is_entry entries.new self.old.next entry
             × (self.new ≡ record self.old { next = self.old.next + 1; first = false; pending = made_of self.old entry })) }
         ensures not_yet { IfOk result (λ b. b ≡ false → self.new ≡ self.old) }
-        ensures ready { self.old.next < 2 ^ 40 → E.ready entries.old self.old.next → IfOk result (λ b. IsTrue b) }
+        ensures ready { self.old.next < NUMBERS_END → E.ready entries.old self.old.next → IfOk result (λ b. IsTrue b) }
         ensures err { OnErr result (self.new ≡ self.old) }
         ensures uncut { IsErrOf result ShipError.Cut → ⊥ }
     {

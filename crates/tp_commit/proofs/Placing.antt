@@ -5,6 +5,7 @@ use Rattle.std.proofs.lemmas.Bool.{cases_lt}
 use Rattle.std.proofs.lemmas.Bool.Decides.{nat_tests}
 use Rattle.std.specs.Prelude.{nat_lt, nat_eq, not, ◌-◌, ◌*◌, ◌%◌}
 use Rattle.std.proofs.lemmas.List.Elements.{filter-append}
+use Rattle.global_defs.specs.declared.limits.TheConstants.{MOST_REGIONS}
 use Rattle.global_defs.specs.Entry.{Update, Item}
 use Rattle.journal_defs.specs.Sequence.{REGIONS}
 use Rattle.journal_defs.specs.Split.{numbered, items_for, mask_with}
@@ -28,7 +29,7 @@ items_more region us u i is r =
     ap (filter f) (numbered_more 0 us u ∙ ap (λ (k : ℕ). numbered 0 us ++ record { position = k; update = u } ∷ []) place)
     ∙ filter-append f (numbered 0 us) (record { position = i; update = u } ∷ []) ∙ chosen (region u == r) (items_for region r us) (record { position = i; update = u })
 
-placed : (f g : ℕ → List Item) (k : ℕ) (x : Item) → k < 8 → ((r : ℕ) → g r ≡ (if k == r then f r ++ x ∷ [] else f r)) → map g REGIONS ≡ set (map f REGIONS) k (get_or (map f REGIONS) k [] ++ x ∷ [])
+placed : (f g : ℕ → List Item) (k : ℕ) (x : Item) → k < MOST_REGIONS → ((r : ℕ) → g r ≡ (if k == r then f r ++ x ∷ [] else f r)) → map g REGIONS ≡ set (map f REGIONS) k (get_or (map f REGIONS) k [] ++ x ∷ [])
 placed f g zero x low h = rw (h 0, h 1, h 2, h 3, h 4, h 5, h 6, h 7) refl
 placed f g (suc zero) x low h = rw (h 0, h 1, h 2, h 3, h 4, h 5, h 6, h 7) refl
 placed f g (suc (suc zero)) x low h = rw (h 0, h 1, h 2, h 3, h 4, h 5, h 6, h 7) refl
@@ -40,7 +41,7 @@ placed f g (suc (suc (suc (suc (suc (suc (suc zero))))))) x low h = rw (h 0, h 1
 placed f g (suc (suc (suc (suc (suc (suc (suc (suc k)))))))) x low h = absurd (omega arith)
 
 -- an update more, in the lists of all regions
-pub lists_more : (region : Update → ℕ) (us : List Update) (u : Update) (i : ℕ) → i ≡ length us → region u < 8
+pub lists_more : (region : Update → ℕ) (us : List Update) (u : Update) (i : ℕ) → i ≡ length us → region u < MOST_REGIONS
     → set (map (λ r. items_for region r us) REGIONS) (region u) (get_or (map (λ r. items_for region r us) REGIONS) (region u) [] ++ record { position = i; update = u } ∷ [])
     ≡ map (λ r. items_for region r (us ++ u ∷ [])) REGIONS
 lists_more region us u i is low = sym (placed (λ r. items_for region r us) (λ r. items_for region r (us ++ u ∷ [])) (region u) (record { position = i; update = u }) low (items_more region us u i is))
@@ -55,7 +56,7 @@ set_taken (suc n) (suc k) (y ∷ l) x low = ap (λ (m : List _). y ∷ m) (set_t
 pub put_taken : (n k : ℕ) (l : List (List Item)) (x : Item) → k < n → set (take n l) k (get_or (take n l) k [] ++ x ∷ []) ≡ take n (set l k (get_or l k [] ++ x ∷ []))
 put_taken n k l x low = ap (λ (items : List Item). set (take n l) k (items ++ x ∷ [])) (get_or-take n l k [] low) ∙ set_taken n k l (get_or l k [] ++ x ∷ []) low
 
-at_region : {X : Type 0} (h : ℕ → X) (none : X) (r : ℕ) → r < 8 → get_or (map h REGIONS) r none ≡ h r
+at_region : {X : Type 0} (h : ℕ → X) (none : X) (r : ℕ) → r < MOST_REGIONS → get_or (map h REGIONS) r none ≡ h r
 at_region h none zero low = refl
 at_region h none (suc zero) low = refl
 at_region h none (suc (suc zero)) low = refl
@@ -67,7 +68,7 @@ at_region h none (suc (suc (suc (suc (suc (suc (suc zero))))))) low = refl
 at_region h none (suc (suc (suc (suc (suc (suc (suc (suc r)))))))) low = absurd (omega arith)
 
 -- what stands for a region among the first so many, behind which there is nothing
-pub at_taken : {X : Type 0} (h : ℕ → X) (none : X) (n r : ℕ) → n ≤ 8 → r < 8 → (n ≤ r → h r ≡ none) → get_or (take n (map h REGIONS)) r none ≡ h r
+pub at_taken : {X : Type 0} (h : ℕ → X) (none : X) (n r : ℕ) → n ≤ MOST_REGIONS → r < MOST_REGIONS → (n ≤ r → h r ≡ none) → get_or (take n (map h REGIONS)) r none ≡ h r
 at_taken h none n r few low past = elim (cases_lt r n) [
   | inl below ↦ get_or-take n (map h REGIONS) r none below ∙ at_region h none r low
   | inr above ↦ (let long = length-take-le n (map h REGIONS) few in get_or_past (take n (map h REGIONS)) r none (omega (arith, long, above))) ∙ sym (past above)
@@ -82,7 +83,7 @@ none_past region bound i r (u ∷ us) low past =
     rw other (none_past region bound (suc i) r us low past)
 
 -- the items of a region, in the lists of all that there are
-pub items_taken : (region : Update → ℕ) (bound : ℕ) (us : List Update) → bound ≤ 8 → ((u : Update) → region u < bound) → (r : ℕ) → r < 8 → get_or (take bound (map (λ r. items_for region r us) REGIONS)) r [] ≡ items_for region r us
+pub items_taken : (region : Update → ℕ) (bound : ℕ) (us : List Update) → bound ≤ MOST_REGIONS → ((u : Update) → region u < bound) → (r : ℕ) → r < MOST_REGIONS → get_or (take bound (map (λ r. items_for region r us) REGIONS)) r [] ≡ items_for region r us
 items_taken region bound us few low r inside = at_taken (λ r. items_for region r us) [] bound r few inside (λ past. none_past region bound 0 r us low past)
 
 -- one more, of the values of a list
@@ -105,7 +106,7 @@ has_item lists i x b low here is = ap (λ (l : List Item). nat_lt 0 (length l)) 
     some (y ∷ l) = grind (arith, nat_tests)
 
 -- the mask of the regions from one on
-mask_more : (has : ℕ → Bool) (r : ℕ) → r < 8 → mask_with has (drop r REGIONS) ≡ (if has r then 2 ^ r else 0) + mask_with has (drop (r + 1) REGIONS)
+mask_more : (has : ℕ → Bool) (r : ℕ) → r < MOST_REGIONS → mask_with has (drop r REGIONS) ≡ (if has r then 2 ^ r else 0) + mask_with has (drop (r + 1) REGIONS)
 mask_more has zero low = refl
 mask_more has (suc zero) low = refl
 mask_more has (suc (suc zero)) low = refl
@@ -132,7 +133,7 @@ mask_small has =
     let h = at_most (has 7) 128 in
     omega (arith, a, b, c, d, e, f, g, h)
 
-pub shifted : (i : ℕ) → i < 8 → 1 * 2 ^ i % 256 ≡ 2 ^ i
+pub shifted : (i : ℕ) → i < MOST_REGIONS → 1 * 2 ^ i % 256 ≡ 2 ^ i
 shifted zero low = refl
 shifted (suc zero) low = refl
 shifted (suc (suc zero)) low = refl
@@ -144,7 +145,7 @@ shifted (suc (suc (suc (suc (suc (suc (suc zero))))))) low = refl
 shifted (suc (suc (suc (suc (suc (suc (suc (suc i)))))))) low = absurd (omega arith)
 
 -- a region more in the mask so far
-pub mask_on : (has : ℕ → Bool) (i mask total : ℕ) (b : Bool) → i < 8 → has i ≡ b → mask + mask_with has (drop i REGIONS) ≡ total → mask + (if b then 2 ^ i else 0) + mask_with has (drop (i + 1) REGIONS) ≡ total
+pub mask_on : (has : ℕ → Bool) (i mask total : ℕ) (b : Bool) → i < MOST_REGIONS → has i ≡ b → mask + mask_with has (drop i REGIONS) ≡ total → mask + (if b then 2 ^ i else 0) + mask_with has (drop (i + 1) REGIONS) ≡ total
 mask_on has i mask total b low is so_far =
     let more : mask_with has (drop i REGIONS) ≡ (if b then 2 ^ i else 0) + mask_with has (drop (i + 1) REGIONS) = mask_more has i low ∙ ap (λ (c : Bool). (if c then 2 ^ i else 0) + mask_with has (drop (i + 1) REGIONS)) is in
     omega (arith, more, so_far)
@@ -157,10 +158,10 @@ none_from has (suc left) i at none =
     omega (arith, here, rest)
 
 -- behind the lists there is nothing in the mask
-pub mask_end : (lists : List (List Item)) (i : ℕ) → length lists ≤ i → i ≤ 8 → mask_with (λ r. nat_lt 0 (length (get_or lists r []))) (drop i REGIONS) ≡ 0
+pub mask_end : (lists : List (List Item)) (i : ℕ) → length lists ≤ i → i ≤ MOST_REGIONS → mask_with (λ r. nat_lt 0 (length (get_or lists r []))) (drop i REGIONS) ≡ 0
 mask_end lists i past few =
     none_from (λ r. nat_lt 0 (length (get_or lists r []))) (8 - i) i (omega (arith, few)) (λ r beyond. ap (λ (l : List Item). nat_lt 0 (length l)) (get_or_past lists r [] (omega (arith, past, beyond))))
 
 -- the same regions are in both masks
-pub mask_same : (f g : ℕ → Bool) → ((r : ℕ) → r < 8 → f r ≡ g r) → mask_with f REGIONS ≡ mask_with g REGIONS
+pub mask_same : (f g : ℕ → Bool) → ((r : ℕ) → r < MOST_REGIONS → f r ≡ g r) → mask_with f REGIONS ≡ mask_with g REGIONS
 mask_same f g h = rw (h 0 (omega arith), h 1 (omega arith), h 2 (omega arith), h 3 (omega arith), h 4 (omega arith), h 5 (omega arith), h 6 (omega arith), h 7 (omega arith)) refl

@@ -4,6 +4,7 @@ use Rattle.std.specs.Prelude.{IsTrue}
 use Rattle.std.specs.Int.{to_be_bytes, w16}
 use Rattle.std.specs.List.{AllByRecursion}
 use Rattle.std.proofs.lemmas.Bool.{leb-true, cases_Bool, and_parts}
+use Rattle.global_defs.specs.declared.limits.TheConstants.{LONGEST_BODY}
 use Rattle.global_defs.specs.Key.{Key}
 use Rattle.global_defs.specs.Valid.{is_key}
 use Rattle.global_defs.specs.Encoded.{encoded}
@@ -46,7 +47,7 @@ items_short f n (u ∷ us) all =
 -- a part whose record a journal can take
 abbrev pub IsReadyPart : Option Part → Type 0
 IsReadyPart None = Unit {0}
-IsReadyPart (Some p) = IsPart p × (length (spelled_record (Tcom p)) ≤ 1048576)
+IsReadyPart (Some p) = IsPart p × (length (spelled_record (Tcom p)) ≤ LONGEST_BODY)
 
 -- each part of a transaction of its form
 ready_split : (region : Update → ℕ) (n mask : ℕ) (t : Transaction) (r : ℕ) → IsNumber n → mask < 2 ^ 8 → IsTransaction t → IsReadyPart (split region n mask t r)
@@ -71,7 +72,7 @@ ready_one None o is h = tt
 ready_one (Some x) None is h = absurd (cc is)
 ready_one (Some x) (Some p) is h =
     let same : record_value x ≡ Tcom p = cc is in
-    (subst IsInForm (sym same) h.0, first x p same, subst (λ (r : JournalRecord). length (spelled_record r) ≤ 1048576) (sym same) h.1)
+    (subst IsInForm (sym same) h.0, first x p same, subst (λ (r : JournalRecord). length (spelled_record r) ≤ LONGEST_BODY) (sym same) h.1)
 
 ready_each : (part : ℕ → Option Part) → ((r : ℕ) → IsReadyPart (part r)) → (rs : List ℕ) (xs : List (Option JnlRecord)) → map (λ x. option_map record_value x) xs ≡ map (λ r. recorded (part r)) rs → AllByRecursion IsReady xs
 ready_each part h rs [] is = tt

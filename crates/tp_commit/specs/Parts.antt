@@ -1,5 +1,6 @@
 -- The records of a transaction as an entry, one a region that has a part of it.
 use Rattle.std.specs.Prelude.{ℕ, ◌≤◌, nat_lt, List, length, get_or, Option, Some, None, [], option_map}
+use Rattle.global_defs.specs.declared.limits.TheConstants.{LONGEST_BODY}
 use Rattle.global_defs.specs.Entry.{Item}
 use Rattle.journal_defs.specs.Journal.{JournalRecord, Tcom, Part, IsInForm, spelled_record}
 use Rattle.journal_defs.specs.Sequence.{REGIONS}
@@ -23,4 +24,4 @@ mask_by lists = mask_with (λ r. nat_lt 0 (length (get_or lists r []))) REGIONS
 -- a record that a journal can take
 abbrev pub IsReady : Option JnlRecord → Type 0
 IsReady None = Unit {0}
-IsReady (Some x) = IsInForm (record_value x) × IsFirstVersion x × (length (spelled_record (record_value x)) ≤ 1048576)
+IsReady (Some x) = IsInForm (record_value x) × IsFirstVersion x × (length (spelled_record (record_value x)) ≤ LONGEST_BODY)

@@ -1,5 +1,6 @@
 //! The updates of a transaction as lists of items, one a region.
 ghost use Rattle.std.specs.Prelude.{◌≡◌, ◌≤◌, ◌<◌, ◌^◌, ◌++◌, ◌∷◌, [], ℕ, List, length, map, take, replicate, set, get_or, IfOk, OnOk};
+ghost use Rattle.global_defs.specs.declared.limits.TheConstants.{MOST_REGIONS};
 ghost use Rattle.gvn_model.specs.Items.{item_value};
 ghost use Rattle.journal_defs.specs.Fit.{region_of_update};
 ghost use Rattle.journal_defs.specs.Sequence.{REGIONS};
@@ -41,7 +42,7 @@ pub fn items_by_region(
 ) -> Result<Vec<Items>, NoMemory>
     requires short { length updates.now < 2 ^ 16 }
     requires all { directory.now.regions ≤ count }
-    requires few { count ≤ 8 }
+    requires few { count ≤ MOST_REGIONS }
     ensures { IfOk result (λ made. made.items ≡ take count (map (λ r. items_for (region_of_update directory.now.patterns) r updates.now) REGIONS)) }
 {
     let _regions = directory.regions();
@@ -60,7 +61,7 @@ pub fn items_by_region(
 
 /// The regions that have an item, as a mask: bit r stands for region r.
 pub fn mask_by(lists: &[Items]) -> u8
-    requires { length lists.now ≤ 8 }
+    requires { length lists.now ≤ MOST_REGIONS }
     ensures { result ≡ mask_by lists.now }
 {
     let mut mask = 0;

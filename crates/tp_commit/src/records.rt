@@ -1,6 +1,7 @@
 //! The parts of a transaction, as records.
 ghost use Rattle.std.specs.Prelude.{◌≡◌, ◌<◌, ◌≤◌, ◌^◌, ℕ, List, [], map, length, get_or, None, option_map, IfOk, IfSome};
 ghost use Rattle.std.specs.List.{AllByRecursion};
+ghost use Rattle.global_defs.specs.declared.limits.TheConstants.{LONGEST_BODY, MOST_REGIONS};
 ghost use Rattle.global_defs.specs.Fields.{IsNumber, IsTransaction};
 ghost use Rattle.global_defs.specs.Entry as defs;
 ghost use Rattle.gvn_model.specs.Entries.{transaction_value};
@@ -94,7 +95,7 @@ pub fn entry_records(
     requires number { IsNumber number }
     requires form { IsTransaction (transaction_value t.now) }
     ensures mask { IfOk result (λ made. made.mask ≡ mask_of (region_of_update directory.now.patterns) t.now.updates) }
-    ensures each { IfOk result (λ made. (r : ℕ) → r < 8 → get_or made.records r None ≡ recorded (split (region_of_update directory.now.patterns) number (mask_of (region_of_update directory.now.patterns) t.now.updates) (transaction_value t.now) r)) }
+    ensures each { IfOk result (λ made. (r : ℕ) → r < MOST_REGIONS → get_or made.records r None ≡ recorded (split (region_of_update directory.now.patterns) number (mask_of (region_of_update directory.now.patterns) t.now.updates) (transaction_value t.now) r)) }
     ensures split { IsSplit (region_of_update directory.now.patterns) (mask_of (region_of_update directory.now.patterns) t.now.updates) (transaction_value t.now) }
     ensures no_other { (n mask r : ℕ) → directory.now.regions ≤ r → split (region_of_update directory.now.patterns) n mask (transaction_value t.now) r ≡ None }
 {
@@ -118,7 +119,7 @@ impl PartRecords {
         ensures value { option_map (λ x. record_value x.now) result ≡ get_or self.now.records region None }
         ensures form { IfSome result (λ x. IsInForm (record_value x.now)) }
         ensures version { IfSome result (λ x. IsFirstVersion x.now) }
-        ensures short { IfSome result (λ x. length (spelled_record (record_value x.now)) ≤ 1048576) }
+        ensures short { IfSome result (λ x. length (spelled_record (record_value x.now)) ≤ LONGEST_BODY) }
     {
         let region = usize::from(region);
         if self.records.len() <= region {

@@ -1,4 +1,6 @@
 // What entries are applied to.
+ghost use Rattle.global_defs.specs.declared.limits.TheConstants.{NUMBERS_END};
+
 use gvn_model::{History, Reign, Transaction};
 
 /// Why an entry wasn't applied.
@@ -34,7 +36,7 @@ pub trait EntrySink {
     /// Its length and its reigns.
     fn history(&self) -> &History
         ensures is { history_value result.now ≡ history_of (copy self.now) }
-        ensures few { result.now.length < 2 ^ 40 };
+        ensures few { result.now.length < NUMBERS_END };
 
     /// Remembers a reign that begins with the next entry, and forgets an earlier one. It appends nothing.
     fn adopt_reign(&mut self, reign: &Reign) -> Result<(), Self::Error>
@@ -54,7 +56,7 @@ pub trait EntrySink {
     ) -> Result<(), ApplyError<Self::Error>>
         requires going { IsTrue (going self.old) }
         requires next { number ≡ next_of (copy self.old) }
-        requires limit { number < 2 ^ 40 }
+        requires limit { number < NUMBERS_END }
         requires form { IsTransaction (transaction_value transaction) }
         requires under { (stamp : Stamp) × (stamp_at (next_of (copy self.old)) (reigns_next (copy self.old)) ≡ Some stamp) }
         ensures ok { OnOk result (Takes (transaction_value transaction) (copy self.old) (copy self.new)) }

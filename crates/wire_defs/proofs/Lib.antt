@@ -1,2 +1,3 @@
 pub mod PoolWords
 pub mod Ends
+pub mod Resumed

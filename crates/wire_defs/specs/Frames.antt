@@ -2,6 +2,7 @@
 use Rattle.std.specs.Prelude.{◌≡◌, ℕ, ◌+◌, ◌-◌, ◌^◌, ◌<◌, ◌≤◌, min, List, [], ◌∷◌, ◌++◌, length}
 use Rattle.std.specs.Int.{to_be_bytes, w16, w32, w64}
 use Rattle.std.specs.List.{AllByRecursion, flat_map}
+use Rattle.global_defs.specs.declared.limits.TheConstants.{LONGEST_BODY, NUMBERS_END}
 use Rattle.global_defs.specs.Entry.{Transaction, Reign}
 use Rattle.global_defs.specs.Prefix as prefix
 use Rattle.global_defs.specs.Fields.{short, spelled_update, IsSiteName, IsNumber, IsReign, IsTransaction}
@@ -48,18 +49,14 @@ frame_body (Bye n) = to_be_bytes w64 n
 abbrev pub spelled_frame : Frame → List ℕ
 spelled_frame f = frame_type f ∷ to_be_bytes w32 (length (frame_body f)) ++ frame_body f
 
--- how many bytes a body may have
-abbrev pub MOST_BODY : ℕ
-MOST_BODY = 1048576
-
 -- a length of a sequence
 abbrev pub IsLength : ℕ → Type 0
-IsLength n = n < 2 ^ 40
+IsLength n = n < NUMBERS_END
 
 -- the fields of a frame are of their form
 abbrev pub HasFields : Frame → Type 0
 HasFields (Hello version name history) = (version ≡ 1) × IsSiteName name × IsLength history.length × (length history.reigns < 2 ^ 32) × AllByRecursion IsReign history.reigns
-HasFields (Resume n) = (1 ≤ n) × (n ≤ 2 ^ 40)
+HasFields (Resume n) = (1 ≤ n) × (n ≤ NUMBERS_END)
 HasFields (RollbackFirst n) = IsNumber n
 HasFields (History r) = IsReign r
 HasFields (Entry n t) = IsNumber n × IsTransaction t
@@ -68,7 +65,7 @@ HasFields (Bye n) = IsLength n
 -- a well-formed frame, whatever comes before it on a connection
 pub record IsFrame (f : Frame) : Type 0 where
   pub fields : HasFields f
-  pub short : length (frame_body f) ≤ MOST_BODY
+  pub short : length (frame_body f) ≤ LONGEST_BODY
 
 -- frames one after another
 abbrev pub stream : List Frame → List ℕ

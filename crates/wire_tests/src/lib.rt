@@ -1,12 +1,10 @@
-//! Worked frames, links in memory and the journal pool, in pieces and between threads.
+//! Worked frames and links in memory, in pieces and between threads.
 #![tactic(auto)]
 
 #[cfg(test)]
 mod frames;
 #[cfg(test)]
 mod links;
-#[cfg(test)]
-mod pools;
 #[cfg(test)]
 mod prefixes;
 #[cfg(test)]

@@ -2,11 +2,13 @@
 -- the history of an instance never go back but by a rollback).
 use Rattle.std.specs.Prelude.{◌≡◌, ◌<◌, ◌≤◌, ℕ, List, length, Option, Some, None}
 use Rattle.std.specs.List.{AllByRecursion}
+use Rattle.global_defs.specs.declared.limits.TheConstants.{MOST_REIGNS}
 use Rattle.global_defs.specs.Entry.{Stamp, Entry}
 use Rattle.global_defs.specs.Serial.{serial_at}
+use Rattle.global_defs.specs.Rising.{SerialsRise}
 use Rattle.journal_defs.specs.Instance.{greatest_cycle, site_name}
 use Rattle.journal_defs.specs.Surviving.{reigns}
-use Rattle.journal_defs.specs.Fit.{SerialsRise, HasFewReigns, MOST_REIGNS}
+use Rattle.journal_defs.specs.Fit.{HasFewReigns}
 use Rattle.command_defs.specs.Commands.{Name}
 use Rattle.world_defs.specs.World.{State, Down, Primary, Failed, Site, Place, World, IfKnown, EachOutcome}
 use Rattle.site_defs.specs.Contents.{Contents}

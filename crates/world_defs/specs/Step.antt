@@ -1,7 +1,8 @@
 -- What a command with its answers does, and the text that it writes.
 use Rattle.std.specs.Prelude.{◌≡◌, ◌⊎◌, ℕ, ◌≤◌, Bool, true, false, List, [], ◌∷◌, ◌++◌, Option, Some}
+use Rattle.global_defs.specs.Beside.{Along, At}
 use Rattle.command_defs.specs.Commands.{Command}
-use Rattle.site_defs.specs.Lists.{Among, Along, At}
+use Rattle.site_defs.specs.Lists.{Among}
 use Rattle.site_defs.specs.Contents.{Contents, Standing}
 use Rattle.world_defs.specs.World.{Place, World, IfKnown, StandAfter, Unchanged}
 use Rattle.world_defs.specs.Answers.{Refusal, Answer, Done, Refused, DiskFault, NotAFile, Ran, Typed, refusal_line}

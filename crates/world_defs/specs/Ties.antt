@@ -1,8 +1,9 @@
 -- What ties disks to a world.
 use Rattle.std.specs.Prelude.{◌≡◌, Bool, true, false, List, Some, IfSome, IsSomeAnd}
 use Rattle.std.specs.List.{AllByRecursion}
+use Rattle.global_defs.specs.Beside.{Along}
 use Rattle.disk_defs.specs.Disk.{Files, View, Image}
-use Rattle.site_defs.specs.Lists.{Among, Along}
+use Rattle.site_defs.specs.Lists.{Among}
 use Rattle.site_defs.specs.Contents.{Contents, Standing}
 use Rattle.site_defs.specs.Stands.{Reads, Stands}
 use Rattle.site_defs.specs.Behind.{StandsSo}

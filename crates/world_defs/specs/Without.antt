@@ -2,8 +2,9 @@
 use Rattle.std.specs.Prelude.{◌≡◌, ◌⊎◌, ◌<◌, ◌==◌, ◌&&◌, ℕ, suc, nat_lt, nat_le, Bool, true, not, List, [], ◌∷◌, length, slice_get, Option, Some, None, if◌then◌else◌}
 use Rattle.std.specs.List.{list_any}
 use Rattle.std.specs.Option.{option_or}
+use Rattle.global_defs.specs.Region.{Region}
 use Rattle.journal_defs.specs.Journal.{Start}
-use Rattle.journal_defs.specs.Instance.{NamedMode, InstanceRecord, regions}
+use Rattle.journal_defs.specs.Instance.{InstanceRecord, regions}
 use Rattle.journal_defs.specs.Surviving.{survives}
 use Rattle.journal_defs.specs.Sequence.{Records}
 use Rattle.journal_defs.specs.Epochs.{chosen, first_without}
@@ -20,7 +21,7 @@ without_behind u t r = first_without (u.journal r) (chosen u.instance t (u.journ
 -- The region of that name is the first that needs forward recovery for so many entries, first for that generation.
 pub record IsFirstWithout (name : Name) (g : ℕ) (u : Records) (t : ℕ) : Type 0 where
   pub region : ℕ
-  pub mode : NamedMode
+  pub mode : Region
   pub there : slice_get (regions u.instance) region ≡ Some mode
   pub named : mode.name ≡ name
   pub needs : without_behind u t region ≡ Some g
@@ -74,7 +75,7 @@ needing_or (Some g) name later = Some (Some (name, g))
 
 -- Which of these regions, from that number on, is the first that needs forward recovery for t entries, and first for which generation, or that none does.
 -- It's untold from a region on whose epoch stands in a generation without images.
-abbrev pub needing_from : Contents → ℕ → ℕ → List NamedMode → Option (Option (Name × ℕ))
+abbrev pub needing_from : Contents → ℕ → ℕ → List Region → Option (Option (Name × ℕ))
 needing_from c t r [] = Some None
 needing_from c t r (m ∷ ms) = if is_bare_epoch c t r then None else needing_or (bare_past c t r) m.name (needing_from c t (suc r) ms)
 
@@ -85,7 +86,7 @@ needing c t = needing_from c t 0 (regions c.instance)
 pub record MayNeed (name : Name) (g : ℕ) (c : Contents) (t : ℕ) : Type 0 where
   pub untold : needing c t ≡ None
   pub region : ℕ
-  pub mode : NamedMode
+  pub mode : Region
   pub there : slice_get (regions c.instance) region ≡ Some mode
   pub named : mode.name ≡ name
   pub needs : ((is_bare_epoch c t region ≡ true) × (epoch_generation c t region ≡ g)) ⊎ (bare_past c t region ≡ Some g)

@@ -1,11 +1,13 @@
 -- The world of a run between two commands: plain data (GT.M: instances, and what the replication of each one does).
+use Rattle.global_defs.specs.declared.limits.TheConstants.{MOST_SITES}
 use Rattle.site_defs.specs.Contents.{Contents, Leftover, Standing, same_name}
 use Rattle.std.specs.Prelude.{◌≡◌, ◌⊎◌, ℕ, ◌≤◌, Bool, true, false, List, [], ◌∷◌, ◌++◌, Option, Some, None, IsTrue, take, IfSome}
 use Rattle.std.specs.List.{AllByRecursion}
 use Rattle.disk_defs.specs.Disk.{Files}
 use Rattle.global_defs.specs.Entry.{Stamp}
+use Rattle.global_defs.specs.Beside.{Along}
 use Rattle.command_defs.specs.Commands.{Name}
-use Rattle.site_defs.specs.Lists.{Among, Along, first_where}
+use Rattle.site_defs.specs.Lists.{Among, first_where}
 
 pub data State : Type 0 where
   Down : State
@@ -41,10 +43,6 @@ pub record Place : Type 0 where
 -- Sites stand on the first disks, in the order of their making.
 pub record World : Type 0 where
   pub places : List Place
-
--- how many sites there may be
-abbrev pub MOST_SITES : ℕ
-MOST_SITES = 8
 
 abbrev pub is_site_named : Name → Option Site → Bool
 is_site_named name None = false

@@ -1,7 +1,7 @@
 -- Lists of places beside one another.
 use Rattle.std.proofs.Common.{◌≡◌, ℕ, zero, suc, List, [], ◌∷◌, Some, slice_get, refl, subst}
 use Rattle.std.specs.List.{AllByRecursion}
-use Rattle.site_defs.specs.Lists.{Along, At}
+use Rattle.global_defs.specs.Beside.{Along, At}
 use Rattle.world_defs.specs.World.{Place}
 
 pub along_same : (R : Place → Place → Type 0) → ((x : Place) → R x x) → (ps : List Place) → Along (λ j. R) ps ps

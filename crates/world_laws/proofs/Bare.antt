@@ -6,7 +6,7 @@ use Rattle.std.specs.List.{AllByRecursion, filter_map, find, list_any}
 use Rattle.std.specs.Option.{option_or, option_map, unwrap_or}
 use Rattle.disk_defs.specs.Disk.{Files}
 use Rattle.journal_defs.specs.Journal.{JournalRecord, Start, Pini, Epoch, Pblk, Tcom, IsNoPini, BeginsWithPini}
-use Rattle.journal_defs.specs.Instance.{NamedMode, InstanceRecord, generation, regions}
+use Rattle.journal_defs.specs.Instance.{InstanceRecord, generation, regions}
 use Rattle.journal_defs.specs.Surviving.{survives}
 use Rattle.journal_defs.specs.Sequence.{Placed, Records}
 use Rattle.journal_defs.specs.Stands.{AreRecords, IsJournal, in_generation}
@@ -17,6 +17,8 @@ use Rattle.site_defs.specs.Contents.{Taken, Contents}
 use Rattle.site_defs.specs.Stands.{start_in, epoch_in, IsSite}
 use Rattle.command_defs.specs.Commands.{Name}
 use Rattle.world_defs.specs.Without.{without_behind, IsFirstWithout, NoneIsWithout, last_taken, generation_of, epoch_generation, first_past, is_bare, bare_past, is_bare_epoch, needing_or, needing_from, needing, MayNeed}
+use Rattle.global_defs.proofs.Basics.{and_false}
+use Rattle.global_defs.specs.Region.{Region}
 
 -- A record behind those of generation g: of this generation, and no PINI, or the PINI of a later one.
 data Step (g : ℕ) (p : Placed) : Type 0 where
@@ -66,10 +68,6 @@ journal_runs files r (suc g) last ps j =
     (runs_on 0 j.1 (map (in_generation (suc g)) j.2) older.0 newer.0, subst (λ (n : ℕ). n ≤ suc g) (sym (last_on 0 j.1 (map (in_generation (suc g)) j.2))) newer.1)
 
 -- the generations without images, by the records and by the starts
-
-and_false : (b : Bool) → (b && false) ≡ false
-and_false true = refl
-and_false false = refl
 
 or_false : (b c : Bool) → c ≡ false → (b || c) ≡ b
 or_false true c e = refl
@@ -330,7 +328,7 @@ IsTold c u t r = ToldBy u.instance t (u.journal r) (c.starts r) (epoch_generatio
 past_none : (c : Contents) (u : Records) (t r : ℕ) → IsTold c u t r → is_bare_epoch c t r ≡ false → without_behind u t r ≡ None → bare_past c t r ≡ None
 past_none c u t r told clear none = sym (told.0 clear) ∙ none
 
-later_one : (c : Contents) (u : Records) (t r : ℕ) (m : NamedMode) (ms : List NamedMode) (x : Option (Option (Name × ℕ))) (b : Bool) → is_bare_epoch c t r ≡ b → IsTold c u t r → without_behind u t r ≡ None
+later_one : (c : Contents) (u : Records) (t r : ℕ) (m : Region) (ms : List Region) (x : Option (Option (Name × ℕ))) (b : Bool) → is_bare_epoch c t r ≡ b → IsTold c u t r → without_behind u t r ≡ None
     → (needing_from c t (suc r) ms ≡ x) ⊎ (needing_from c t (suc r) ms ≡ None) → (needing_from c t r (m ∷ ms) ≡ x) ⊎ (needing_from c t r (m ∷ ms) ≡ None)
 later_one c u t r m ms x true bare told none more = inr (ap (λ (b : Bool). if b then None else needing_or (bare_past c t r) m.name (needing_from c t (suc r) ms)) bare)
 later_one c u t r m ms x false clear told none more =
@@ -339,26 +337,26 @@ later_one c u t r m ms x false clear told none more =
     ∙ ap (λ (o : Option ℕ). needing_or o m.name (needing_from c t (suc r) ms)) (past_none c u t r told clear none) in
     elim more [ inl e ↦ inl (same ∙ e) | inr e ↦ inr (same ∙ e) ]
 
-none_one : (c : Contents) (u : Records) (t r : ℕ) (m : NamedMode) (ms : List NamedMode) (b : Bool) → is_bare_epoch c t r ≡ b → IsTold c u t r → without_behind u t r ≡ None
+none_one : (c : Contents) (u : Records) (t r : ℕ) (m : Region) (ms : List Region) (b : Bool) → is_bare_epoch c t r ≡ b → IsTold c u t r → without_behind u t r ≡ None
     → (needing_from c t (suc r) ms ≡ Some None) ⊎ (needing_from c t (suc r) ms ≡ None) → (needing_from c t r (m ∷ ms) ≡ Some None) ⊎ (needing_from c t r (m ∷ ms) ≡ None)
 none_one c u t r m ms b e told none more = later_one c u t r m ms (Some None) b e told none more
 
-first_one : (c : Contents) (u : Records) (t r : ℕ) (m : NamedMode) (ms : List NamedMode) (mode : NamedMode) (g : ℕ) (b : Bool) → is_bare_epoch c t r ≡ b → IsTold c u t r → m ≡ mode → without_behind u t r ≡ Some g
+first_one : (c : Contents) (u : Records) (t r : ℕ) (m : Region) (ms : List Region) (mode : Region) (g : ℕ) (b : Bool) → is_bare_epoch c t r ≡ b → IsTold c u t r → m ≡ mode → without_behind u t r ≡ Some g
     → (needing_from c t r (m ∷ ms) ≡ Some (Some (mode.name, g))) ⊎ (needing_from c t r (m ∷ ms) ≡ None)
 first_one c u t r m ms mode g true bare told same needs = inr (ap (λ (b : Bool). if b then None else needing_or (bare_past c t r) m.name (needing_from c t (suc r) ms)) bare)
 first_one c u t r m ms mode g false clear told same needs =
     inl (ap (λ (b : Bool). if b then None else needing_or (bare_past c t r) m.name (needing_from c t (suc r) ms)) clear
     ∙ ap (λ (o : Option ℕ). needing_or o m.name (needing_from c t (suc r) ms)) (sym (told.0 clear) ∙ needs)
-    ∙ ap (λ (x : NamedMode). Some (Some (x.name, g))) same)
+    ∙ ap (λ (x : Region). Some (Some (x.name, g))) same)
 
-none_from : (c : Contents) (u : Records) (t r : ℕ) (ms : List NamedMode) → ((q : ℕ) → r ≤ q → q < r + length ms → IsTold c u t q) → ((q : ℕ) → r ≤ q → q < r + length ms → without_behind u t q ≡ None)
+none_from : (c : Contents) (u : Records) (t r : ℕ) (ms : List Region) → ((q : ℕ) → r ≤ q → q < r + length ms → IsTold c u t q) → ((q : ℕ) → r ≤ q → q < r + length ms → without_behind u t q ≡ None)
     → (needing_from c t r ms ≡ Some None) ⊎ (needing_from c t r ms ≡ None)
 none_from c u t r [] told none = inl refl
 none_from c u t r (m ∷ ms) told none =
     none_one c u t r m ms (is_bare_epoch c t r) refl (told r (omega arith) (omega arith)) (none r (omega arith) (omega arith))
     (none_from c u t (suc r) ms (λ q low high. told q (omega (arith, low)) (omega (arith, high))) (λ q low high. none q (omega (arith, low)) (omega (arith, high))))
 
-first_from : (c : Contents) (u : Records) (t r : ℕ) (ms : List NamedMode) (i : ℕ) (mode : NamedMode) (g : ℕ) → slice_get ms i ≡ Some mode → ((q : ℕ) → r ≤ q → q < r + length ms → IsTold c u t q) → without_behind u t (r + i) ≡ Some g
+first_from : (c : Contents) (u : Records) (t r : ℕ) (ms : List Region) (i : ℕ) (mode : Region) (g : ℕ) → slice_get ms i ≡ Some mode → ((q : ℕ) → r ≤ q → q < r + length ms → IsTold c u t q) → without_behind u t (r + i) ≡ Some g
     → ((q : ℕ) → r ≤ q → q < r + i → without_behind u t q ≡ None) → (needing_from c t r ms ≡ Some (Some (mode.name, g))) ⊎ (needing_from c t r ms ≡ None)
 first_from c u t r [] i mode g there told needs earlier = cc
 first_from c u t r (m ∷ ms) zero mode g there told needs earlier =

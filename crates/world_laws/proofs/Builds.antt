@@ -1,6 +1,6 @@
 -- The world that slots come to, for slots of any kind: R ties a slot to its place before, S after.
 use Rattle.std.proofs.Common.{◌≡◌, ℕ, zero, suc, List, [], ◌∷◌, Some, slice_get, refl, sym, subst}
-use Rattle.site_defs.specs.Lists.{Along, At}
+use Rattle.global_defs.specs.Beside.{Along, At}
 use Rattle.world_defs.specs.World.{Place, World}
 use Rattle.world_defs.specs.Answers.{Answer}
 use Rattle.world_defs.specs.Row.{Row, Here}

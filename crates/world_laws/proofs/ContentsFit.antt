@@ -1,12 +1,14 @@
 -- What stays fit of the contents of one image.
 use Rattle.std.proofs.Common.{◌≡◌, inl, inr, ℕ, ◌+◌, ◌≤◌, Bool, true, false, List, [], ◌∷◌, ◌++◌, length, Some, None, refl, sym, ◌∙◌, ap, subst, arith}
+use Rattle.global_defs.specs.Rising.{SerialsRise}
+use Rattle.global_defs.specs.Region.{Region}
 use Rattle.journal_defs.specs.Instance as records
 use Rattle.journal_defs.specs.Instance.{InstanceRecord, pattern_record, generation, greatest_cycle, site_name, regions}
 use Rattle.journal_defs.specs.Journal.{Start}
-use Rattle.journal_defs.specs.Fit.{SerialsRise, HasFewReigns}
+use Rattle.journal_defs.specs.Fit.{HasFewReigns}
 use Rattle.journal_defs.specs.Surviving.{spares_start, reigns}
 use Rattle.journal_laws.proofs.Later.{reigns-same}
-use Rattle.command_defs.specs.Commands.{Name, Region}
+use Rattle.command_defs.specs.Commands.{Name}
 use Rattle.site_defs.specs.Contents.{Taken, Contents, nothing}
 use Rattle.world_defs.specs.rows.Create.{created}
 use Rattle.site_defs.specs.Epochs.{MayMark, with_epochs}

@@ -1,7 +1,7 @@
 -- Counts of faults one after another.
 use Rattle.std.proofs.Common.{◌≤◌, List, [], ◌∷◌, arith}
+use Rattle.global_defs.specs.Beside.{Along}
 use Rattle.disk_defs.specs.Disk.{Rose}
-use Rattle.site_defs.specs.Lists.{Along}
 use Rattle.world_defs.specs.World.{Place}
 use Rattle.world_laws.specs.Faults.{HasNotFallen, HasNotRisen}
 use Rattle.world_laws.proofs.Alongs.{along_through}

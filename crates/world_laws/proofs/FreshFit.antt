@@ -1,7 +1,7 @@
 -- Worlds before a run, of empty disks or of those that another run gave back.
 use Rattle.std.proofs.Common.{◌≡◌, List, [], ◌∷◌, map, Option, None, IsTrue, sym, ◌∙◌, subst}
 use Rattle.std.specs.List.{AllByRecursion}
-use Rattle.site_defs.specs.Lists.{Along}
+use Rattle.global_defs.specs.Beside.{Along}
 use Rattle.world_defs.specs.World.{Site, Place, World, IsFresh, Settled}
 use Rattle.site_defs.specs.Contents.{nothing}
 use Rattle.world_defs.specs.Fit.{IsFitContents, IsFitSite, IsNamedSo, IsFitPlace, IsFit}

@@ -2,10 +2,11 @@
 use Rattle.std.proofs.Common.{◌≡◌, inl, inr, ℕ, ◌≤◌, ◌<◌, max, nat_le, Bool, List, [], ◌∷◌, ◌++◌, length, filter, refl, sym, ap, subst, arith, length-append}
 use Rattle.std.proofs.lemmas.Bool.{cases_Bool, lt-leb}
 use Rattle.std.proofs.lemmas.List.Elements.{filter-append}
+use Rattle.global_defs.specs.declared.limits.TheConstants.{MOST_REIGNS}
 use Rattle.global_defs.specs.Entry.{Reign}
 use Rattle.journal_defs.specs.Instance.{InstanceRecord, Create, Reigned, Cut, Map, Mode, greatest_cycle, site_name}
 use Rattle.journal_defs.specs.Surviving.{reigns}
-use Rattle.journal_defs.specs.Fit.{MOST_REIGNS, HasFewReigns}
+use Rattle.journal_defs.specs.Fit.{HasFewReigns}
 use Rattle.journal_laws.proofs.Runs.{reigns-cut, reigns-more}
 
 pub name-more : (rs : List InstanceRecord) (x : InstanceRecord) → site_name (x ∷ []) ≡ [] → site_name (rs ++ x ∷ []) ≡ site_name rs

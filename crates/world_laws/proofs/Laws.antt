@@ -2,9 +2,11 @@
 use Rattle.std.proofs.Common.{◌≡◌, inl, inr, ℕ, zero, suc, ◌<◌, arith, Bool, true, false, cond, List, [], ◌∷◌, ◌++◌, take, Option, Some, None, slice_get, refl, sym, ◌∙◌, subst}
 use Rattle.std.specs.Prelude.{option_map}
 use Rattle.std.specs.List.{AllByRecursion}
+use Rattle.global_defs.specs.declared.limits.TheConstants.{MOST_SITES}
+use Rattle.global_defs.specs.Beside.{Along, At}
 use Rattle.command_defs.specs.Commands.{Name}
-use Rattle.site_defs.specs.Lists.{Along, At, first_where}
-use Rattle.world_defs.specs.World.{Place, World, Kept, MOST_SITES, is_site_named, is_free, place_of, next_of}
+use Rattle.site_defs.specs.Lists.{first_where}
+use Rattle.world_defs.specs.World.{Place, World, Kept, is_site_named, is_free, place_of, next_of}
 use Rattle.world_defs.specs.Answers.{NoDisk, NoSite, Refusal, Section, Answer, Done, Refused, DiskFault, NotAFile, Ran, Typed}
 use Rattle.world_defs.specs.Row.{Row, quiet, refusal_in, Here}
 use Rattle.world_defs.specs.Meaning.{Others, apart, Meaning, No, Acts, Then, Target, On, Open, refusing, at_found, there, on_next, row_at, meant}

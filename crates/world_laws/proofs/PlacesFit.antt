@@ -1,8 +1,9 @@
 -- What keeps a place fit.
 use Rattle.std.proofs.Common.{◌≡◌, inl, inr, ℕ, Bool, true, List, Option, Some, None, IsTrue, refl, sym, ◌∙◌, subst}
 use Rattle.std.proofs.lemmas.Bool.{false≢true}
+use Rattle.global_defs.specs.Region.{Region}
 use Rattle.journal_defs.specs.Instance.{site_name}
-use Rattle.command_defs.specs.Commands.{Name, Region}
+use Rattle.command_defs.specs.Commands.{Name}
 use Rattle.site_defs.specs.Lists.{Among}
 use Rattle.world_defs.specs.World.{State, Down, Primary, Failed, Site, Place, World, Kept}
 use Rattle.site_defs.specs.Contents.{Contents, Standing}

@@ -3,10 +3,10 @@ use Rattle.std.proofs.Common.{◌≡◌, ℕ, ◌+◌, ◌≤◌, ◌<◌, ◌==
 use Rattle.std.proofs.lemmas.Bool.{or_parts, leb-false}
 use Rattle.std.specs.List.{AllByRecursion}
 use Rattle.std.specs.Prelude.{filter}
+use Rattle.global_defs.specs.declared.limits.TheConstants.{MOST_REIGNS}
 use Rattle.global_defs.specs.Entry.{Stamp}
 use Rattle.journal_defs.specs.Instance.{Cut, generation, greatest_cycle, site_name}
 use Rattle.journal_defs.specs.Surviving.{reigns}
-use Rattle.journal_defs.specs.Fit.{MOST_REIGNS}
 use Rattle.command_defs.specs.Commands.{Name}
 use Rattle.world_defs.specs.World.{Down, Primary, Site, Place, name_on}
 use Rattle.site_defs.specs.Contents.{Contents}

@@ -1,9 +1,9 @@
 -- What ROLLBACK and RECOVER keep at their place: a front of the sequence is as fit, and a CUT more leaves no more reigns.
 use Rattle.std.proofs.Common.{◌≡◌, inl, inr, ℕ, ◌+◌, ◌≤◌, Bool, List, [], length, take, true, IsTrue, refl, sym, ◌∙◌, ap, subst, arith}
+use Rattle.global_defs.specs.declared.limits.TheConstants.{MOST_REIGNS}
 use Rattle.journal_defs.specs.Instance as records
 use Rattle.journal_defs.specs.Instance.{generation, greatest_cycle, site_name, regions}
 use Rattle.journal_defs.specs.Surviving.{reigns}
-use Rattle.journal_defs.specs.Fit.{MOST_REIGNS}
 use Rattle.site_defs.specs.Contents.{Contents}
 use Rattle.site_defs.specs.Forward.{MayRecoverAs, opened_as, recovered_as}
 use Rattle.site_defs.specs.Lists.{Among}

@@ -6,11 +6,13 @@ use Rattle.std.specs.Cmp.Lexicographic.{same_text}
 use Rattle.global_defs.specs.Jobs.{Job}
 use Rattle.global_defs.specs.Serial.{Turn}
 use Rattle.global_defs.specs.Entry.{Stamp}
-use Rattle.command_defs.specs.Commands.{Name, Region, Command, Create, Attach, SetJournal, Map, StartPrimary, Run, Stop, Epoch, Resync, RecoverBackward, RecoverForward, Fuse, Crash, Extract, Zwrite, Show, Print, IsFormed}
+use Rattle.global_defs.specs.Beside.{Along}
+use Rattle.global_defs.specs.Region.{Region}
+use Rattle.command_defs.specs.Commands.{Name, Command, Create, Attach, SetJournal, Map, StartPrimary, Run, Stop, Epoch, Resync, RecoverBackward, RecoverForward, Fuse, Crash, Extract, Zwrite, Show, Print, IsFormed}
 use Rattle.command_defs.specs.Updaters.{is_updater}
 use Rattle.site_defs.specs.Contents.{Contents, Standing}
 use Rattle.site_defs.specs.Fronts.{turn_of}
-use Rattle.site_defs.specs.Lists.{Among, Along}
+use Rattle.site_defs.specs.Lists.{Among}
 use Rattle.site_defs.specs.Epochs.{marked, MayMark, MayMarkLeft}
 use Rattle.site_defs.specs.Forward.{MayRecoverAs}
 use Rattle.site_defs.specs.Opening.{MayBegin, MayMap, MaySetMode}

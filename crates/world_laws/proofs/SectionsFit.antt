@@ -1,12 +1,12 @@
 -- What RUN keeps at its place.
 use Rattle.std.proofs.Common.{◌≡◌, ℕ, ◌+◌, ◌≤◌, true, List, length, take, Option, Some, None, IsTrue, refl, sym, ◌∙◌, ap, subst}
 use Rattle.std.specs.List.{list_all}
+use Rattle.global_defs.specs.declared.limits.TheConstants.{MOST_REIGNS}
 use Rattle.global_defs.specs.Entry.{Stamp, Sequence}
 use Rattle.global_defs.specs.Jobs.{Job}
 use Rattle.global_defs.specs.Serial.{Turn, begun}
 use Rattle.journal_defs.specs.Instance.{greatest_cycle, site_name}
 use Rattle.journal_defs.specs.Surviving.{reigns}
-use Rattle.journal_defs.specs.Fit.{MOST_REIGNS}
 use Rattle.command_defs.specs.Commands.{Name}
 use Rattle.command_defs.specs.Updaters.{is_updater}
 use Rattle.world_defs.specs.World.{State, Down, Primary, Failed, Site, Place}

@@ -4,18 +4,19 @@ use Rattle.std.proofs.lemmas.Bool.{and_parts, and_from, leb-true}
 use Rattle.std.proofs.lemmas.List.{get_or-set_same}
 use Rattle.std.proofs.Math.ListN.{length-set}
 use Rattle.std.specs.List.{AllByRecursion, list_all}
+use Rattle.global_defs.specs.declared.limits.TheConstants.{MOST_UPDATERS}
 use Rattle.global_defs.specs.Entry.{Update, Stamp, Entry, Sequence, state}
 use Rattle.global_defs.specs.Evaluation.{Evaluated, Done, RolledBack, eval}
 use Rattle.global_defs.specs.Jobs.{Job, Answers, SeqLimit}
 use Rattle.global_defs.specs.Serial as serials
 use Rattle.global_defs.specs.Serial.{MOST_ENTRIES, Turn, Seq, serial_at, entry_of, replied, decided, picked, serial, next_job}
 use Rattle.command_defs.specs.Updaters.{is_updater, UPDATERS}
-use Rattle.journal_defs.specs.Fit.{SerialsRise}
 use Rattle.journal_laws.proofs.FrontFacts as fronts
 use Rattle.world_defs.specs.Fit.{IsBeforeNext}
 use Rattle.world_laws.proofs.Lists.{all-weaker, all-push, all-get, get-within}
 use Rattle.global_defs.proofs.Lists.{get-push}
 use Rattle.global_defs.proofs.Lists.{at_least}
+use Rattle.global_defs.specs.Rising.{SerialsRise}
 
 -- an entry of the site's own has none but these cycles
 abbrev pub IsOf : (name : List ℕ) → (cycles : ℕ) → Entry → Type 0
@@ -28,7 +29,7 @@ pub record IsGoing (name : List ℕ) (cycles : ℕ) (stamp : Stamp) (next : List
   pub updaters : length next ≡ 64
   pub before : AllByRecursion (IsBeforeNext stamp next) seq
 
--- no updater's next serial falls
+-- what stands before each updater's next serial still does once an updater took its own
 before-risen : (stamp : Stamp) (next : List ℕ) (u : ℕ) (seq : Sequence) → AllByRecursion (IsBeforeNext stamp next) seq
     → AllByRecursion (IsBeforeNext stamp (set next (u - 1) (serial_at next u + 1))) seq
 before-risen stamp next u seq h =
@@ -66,7 +67,7 @@ going-same name cycles stamp next u seq h = record {
   before = before-risen stamp next u seq h.before;
 }
 
-going-more : (name : List ℕ) (cycles : ℕ) (stamp : Stamp) (next : List ℕ) (u : ℕ) (updates : List Update) (seq : Sequence) → stamp.cycle ≤ cycles → 1 ≤ u → u ≤ 64
+going-more : (name : List ℕ) (cycles : ℕ) (stamp : Stamp) (next : List ℕ) (u : ℕ) (updates : List Update) (seq : Sequence) → stamp.cycle ≤ cycles → 1 ≤ u → u ≤ MOST_UPDATERS
     → IsGoing name cycles stamp next seq
     → IsGoing name cycles stamp (set next (u - 1) (serial_at next u + 1)) (seq ++ entry_of stamp u (serial_at next u) updates ∷ [])
 going-more name cycles stamp next u updates seq within least most h = record {
@@ -84,7 +85,7 @@ going-more name cycles stamp next u updates seq within least most h = record {
 abbrev GoesOn : List ℕ → ℕ → Stamp → Turn → Type 0
 GoesOn name cycles stamp t = IsGoing name cycles stamp t.serials t.sequence
 
-going-appended : (name : List ℕ) (cycles : ℕ) (stamp : Stamp) (t : Turn) (u : ℕ) (updates : List Update) (answers : Answers) (fits : Bool) → stamp.cycle ≤ cycles → 1 ≤ u → u ≤ 64
+going-appended : (name : List ℕ) (cycles : ℕ) (stamp : Stamp) (t : Turn) (u : ℕ) (updates : List Update) (answers : Answers) (fits : Bool) → stamp.cycle ≤ cycles → 1 ≤ u → u ≤ MOST_UPDATERS
     → GoesOn name cycles stamp t
     → GoesOn name cycles stamp (if fits
     then replied t u (Seq (length t.sequence + 1) answers) (t.sequence ++ entry_of stamp u (serial_at t.serials u) updates ∷ [])
@@ -92,14 +93,14 @@ going-appended : (name : List ℕ) (cycles : ℕ) (stamp : Stamp) (t : Turn) (u 
 going-appended name cycles stamp t u updates answers true within least most h = going-more name cycles stamp t.serials u updates t.sequence within least most h
 going-appended name cycles stamp t u updates answers false within least most h = going-same name cycles stamp t.serials u t.sequence h
 
-going-decided : (name : List ℕ) (cycles : ℕ) (stamp : Stamp) (t : Turn) (u : ℕ) (done : Evaluated) → stamp.cycle ≤ cycles → 1 ≤ u → u ≤ 64
+going-decided : (name : List ℕ) (cycles : ℕ) (stamp : Stamp) (t : Turn) (u : ℕ) (done : Evaluated) → stamp.cycle ≤ cycles → 1 ≤ u → u ≤ MOST_UPDATERS
     → GoesOn name cycles stamp t → GoesOn name cycles stamp (decided stamp t u done)
 going-decided name cycles stamp t u (RolledBack cause) within least most h = going-same name cycles stamp t.serials u t.sequence h
 going-decided name cycles stamp t u (Done [] answers) within least most h = going-same name cycles stamp t.serials u t.sequence h
 going-decided name cycles stamp t u (Done (x ∷ xs) answers) within least most h =
     going-appended name cycles stamp t u (x ∷ xs) answers (nat_lt (length t.sequence) MOST_ENTRIES) within least most h
 
-going-picked : (name : List ℕ) (cycles : ℕ) (stamp : Stamp) (t : Turn) (u : ℕ) (job : Option Job) → stamp.cycle ≤ cycles → 1 ≤ u → u ≤ 64
+going-picked : (name : List ℕ) (cycles : ℕ) (stamp : Stamp) (t : Turn) (u : ℕ) (job : Option Job) → stamp.cycle ≤ cycles → 1 ≤ u → u ≤ MOST_UPDATERS
     → GoesOn name cycles stamp t → GoesOn name cycles stamp (picked stamp t u job)
 going-picked name cycles stamp t u None within least most h = h
 going-picked name cycles stamp t u (Some job) within least most h = going-decided name cycles stamp t u (eval job (state t.sequence)) within least most h

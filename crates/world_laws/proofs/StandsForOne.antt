@@ -7,10 +7,11 @@ use Rattle.std.proofs.lemmas.Bool.{cases_Bool, cases_lt, false≢true}
 use Rattle.std.proofs.lemmas.Bool.Decides.{nat_tests}
 use Rattle.std.specs.Prelude.{if◌then◌else◌}
 use Rattle.std.specs.List.{enumerate_from, filter_map}
+use Rattle.global_defs.specs.declared.limits.TheConstants.{MOST_GENERATIONS}
+use Rattle.global_defs.specs.Region.{Region}
 use Rattle.disk_defs.specs.Disk.{Files}
-use Rattle.journal_defs.specs.Clean.{MOST_GENERATIONS}
 use Rattle.journal_defs.specs.Numbers.{INSTANCE, lost_file, broken_file}
-use Rattle.journal_defs.specs.Instance.{InstanceRecord, NamedMode, IsInstanceBody, generation, regions, site_name}
+use Rattle.journal_defs.specs.Instance.{InstanceRecord, IsInstanceBody, generation, regions, site_name}
 use Rattle.journal_defs.specs.Sequence.{Placed, Records, IsSequence}
 use Rattle.journal_defs.specs.Stands.{IsJournal, AreRecords}
 use Rattle.journal_defs.specs.Broken.{BrokenPart, parts_past, broken, broken_text}
@@ -57,7 +58,7 @@ flat_none {X} {Y} h (x ∷ xs) none = ap (λ (l : List Y). l ++ flat_map h xs) (
 
 none_broken : (s : Records) (n : ℕ) → ((r : ℕ) → s.journal r ≡ []) → broken s n ≡ []
 none_broken s n none =
-    flat_none (λ (r : ℕ × NamedMode). map (λ p. record { region = r.1.name; part = p }) (parts_past s.instance n (s.journal r.0))) (enumerate_from 0 (regions s.instance))
+    flat_none (λ (r : ℕ × Region). map (λ p. record { region = r.1.name; part = p }) (parts_past s.instance n (s.journal r.0))) (enumerate_from 0 (regions s.instance))
     (λ r. ap (λ (l : List Placed). map (λ p. record { region = r.1.name; part = p }) (parts_past s.instance n l)) (none r.0))
 
 none_journaled : (f : Files) (s : Records) → AreRecords f s → generation s.instance ≡ 0 → (r : ℕ) → s.journal r ≡ []
@@ -154,7 +155,7 @@ module _ (f : Files) (file : ℕ → ℕ) (of : ℕ → List (List ℕ)) (none :
 
 -- broken-transaction files
 
-pub typing_reads : (f : Files) (c : Contents) (left : Leftover) (g : ℕ) → IsSite f c → HasLeft f c left → 1 ≤ g → g ≤ 65535
+pub typing_reads : (f : Files) (c : Contents) (left : Leftover) (g : ℕ) → IsSite f c → HasLeft f c left → 1 ≤ g → g ≤ MOST_GENERATIONS
     → f (broken_file g) ≡ get_or (c.texts ++ left.torn ∷ []) (g - 1) []
 typing_reads f c left g h l low high = elim (cases_Bool (nat_lt newest MOST_GENERATIONS)) [
   | inl room ↦
@@ -181,7 +182,7 @@ typing_reads f c left g h l low high = elim (cases_Bool (nat_lt newest MOST_GENE
 
 -- lost-transaction files
 
-pub typing_reads_lost : (f : Files) (c : Contents) (g : ℕ) → IsSite f c → 1 ≤ g → g ≤ 65535 → f (lost_file g) ≡ get_or c.losts (g - 1) []
+pub typing_reads_lost : (f : Files) (c : Contents) (g : ℕ) → IsSite f c → 1 ≤ g → g ≤ MOST_GENERATIONS → f (lost_file g) ≡ get_or c.losts (g - 1) []
 typing_reads_lost f c g h low high =
     by_generation f lost_file (losts_of f) refl (λ n. refl) newest g low (λ past. h.image.clean.lost g (omega (arith, same), high))
     ∙ ap (λ (ts : List (List ℕ)). get_or ts (g - 1) []) (sym h.losts)

@@ -4,8 +4,9 @@ use Rattle.std.specs.List.{AllByRecursion}
 use Rattle.global_defs.specs.Entry.{Entry, Sequence}
 use Rattle.global_defs.specs.Jobs.{Job, Answers}
 use Rattle.global_defs.specs.Serial.{Seq, Replied, Turn}
+use Rattle.global_defs.specs.Beside.{Along}
 use Rattle.command_defs.specs.Commands.{Name, Command, Resync}
-use Rattle.site_defs.specs.Lists.{Among, Along}
+use Rattle.site_defs.specs.Lists.{Among}
 use Rattle.world_defs.specs.World.{Site, Place, World, IfKnown, EachOutcome, name_on, place_of}
 use Rattle.world_defs.specs.Answers.{Section, Answer, Done, DiskFault}
 use Rattle.world_defs.specs.Runs.{Told}

@@ -1,19 +1,15 @@
 -- Counts of faults, and the answers that tell of one.
-use Rattle.std.specs.Prelude.{ℕ, ◌≤◌, ◌-◌, ◌^◌, min, List, Option, Some, None}
+use Rattle.std.specs.Prelude.{ℕ, ◌≤◌, min, List, Option, Some, None}
 use Rattle.std.specs.List.{AllByRecursion}
-use Rattle.disk_defs.specs.Disk.{Rose}
-use Rattle.site_defs.specs.Lists.{Along}
+use Rattle.global_defs.specs.Counts.{LAST, Rose}
+use Rattle.global_defs.specs.Beside.{Along}
 use Rattle.world_defs.specs.World.{Place, World}
 use Rattle.world_defs.specs.Answers.{Answer, Done, Refused, DiskFault, NotAFile, Ran, Typed}
 use Rattle.world_defs.specs.Runs.{Told}
 
--- the last value of a count
-abbrev pub LAST_COUNT : ℕ
-LAST_COUNT = 2 ^ 64 - 1
-
 -- A count that is at most the last value doesn't fall, and one past it falls no further than to that.
 abbrev pub HasNotFallen : Place → Place → Type 0
-HasNotFallen old new = min old.faults LAST_COUNT ≤ new.faults
+HasNotFallen old new = min old.faults LAST ≤ new.faults
 
 -- it has not risen, where one that stands at its last value is taken as risen
 abbrev pub HasNotRisen : Place → Place → Type 0

@@ -2,7 +2,7 @@
 
 ghost use Rattle.std.specs.Prelude.{◌≡◌, List, None, IsTrue, map};
 ghost use Rattle.std.specs.List.{AllByRecursion};
-ghost use Rattle.site_defs.specs.Lists.{Along};
+ghost use Rattle.global_defs.specs.Beside.{Along};
 ghost use Rattle.world_defs.specs.World.{Place, World, IsFresh, Settled};
 ghost use Rattle.site_defs.specs.Contents.{nothing};
 ghost use Rattle.world_defs.specs.Fit.{IsFit};

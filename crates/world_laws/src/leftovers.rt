@@ -1,6 +1,7 @@
 //! What files stand for, and what lies behind that.
 
 ghost use Rattle.std.specs.Prelude.{◌≡◌, ℕ, ◌-◌, ◌≤◌, [], ◌∷◌, ◌++◌, length, get_or};
+ghost use Rattle.global_defs.specs.declared.limits.TheConstants.{MOST_GENERATIONS};
 ghost use Rattle.disk_defs.specs.Disk.{Files};
 ghost use Rattle.journal_defs.specs.Numbers.{lost_file, broken_file};
 ghost use Rattle.journal_defs.specs.Instance.{generation};
@@ -25,10 +26,10 @@ pub fn files_stand_for_one()
 
 /// A broken-transaction file has what is typed of it: a text, or what an opening that a fault ended wrote, or nothing. So has a lost-transaction file.
 pub fn typing_reads_files()
-    ensures broken { (f : Files) (c : Contents) (left : Leftover) (g : ℕ) → IsSite f c → HasLeft f c left → 1 ≤ g → g ≤ 65535
+    ensures broken { (f : Files) (c : Contents) (left : Leftover) (g : ℕ) → IsSite f c → HasLeft f c left → 1 ≤ g → g ≤ MOST_GENERATIONS
         → f (broken_file g) ≡ get_or (c.texts ++ left.torn ∷ []) (g - 1) [] }
     // the contents have one of each kind a generation
     ensures count { (f : Files) (c : Contents) → IsSite f c → (length c.texts ≡ generation c.instance) × (length c.losts ≡ generation c.instance) }
     // there is no lost-transaction file past the newest generation
-    ensures lost { (f : Files) (c : Contents) (g : ℕ) → IsSite f c → 1 ≤ g → g ≤ 65535 → f (lost_file g) ≡ get_or c.losts (g - 1) [] }
+    ensures lost { (f : Files) (c : Contents) (g : ℕ) → IsSite f c → 1 ≤ g → g ≤ MOST_GENERATIONS → f (lost_file g) ≡ get_or c.losts (g - 1) [] }
 {}

@@ -1,9 +1,9 @@
 -- CREATE: an empty site that is down.
-use Rattle.std.specs.Prelude.{◌≡◌, ◌⊎◌, ◌<◌, length, List, [], ◌∷◌, map, codes, Option, Some, None}
+use Rattle.std.specs.Prelude.{◌≡◌, ◌⊎◌, ◌<◌, length, List, [], ◌∷◌, codes, Option, Some, None}
+use Rattle.global_defs.specs.Region.{Region}
 use Rattle.disk_defs.specs.Disk.{Files}
 use Rattle.journal_defs.specs.Instance as records
-use Rattle.journal_defs.specs.Instance.{NamedMode}
-use Rattle.command_defs.specs.Commands.{Name, Region}
+use Rattle.command_defs.specs.Commands.{Name}
 use Rattle.site_defs.specs.Contents.{Contents, Standing, is_made, bare}
 use Rattle.world_defs.specs.World.{Down, Place, IfShown, StandAfter}
 use Rattle.world_defs.specs.Answers.{Cause, NotEmpty, Answer, line}
@@ -11,12 +11,9 @@ use Rattle.world_defs.specs.Shown.{HasNoRecord, ByRecords, IsNoSite, ByAnswer, A
 use Rattle.world_defs.specs.Changes.{Stays, Fails, KeptUnknown}
 use Rattle.world_defs.specs.Row.{Row, writing, refused_with, caused, where_known}
 
-abbrev pub named_mode : Region → NamedMode
-named_mode r = record { name = r.name; before = r.before }
-
 -- a site that was made, without entries
 abbrev pub created : Name → List Region → Contents
-created name regions = record { instance = records.Create name (map named_mode regions) ∷ []; starts = λ r. []; epochs = λ r. []; texts = []; losts = []; sequence = [] }
+created name regions = record { instance = records.Create name regions ∷ []; starts = λ r. []; epochs = λ r. []; texts = []; losts = []; sequence = [] }
 
 -- what making it may leave: what was there, or the empty site
 abbrev pub MayMake : Name → List Region → Contents → Contents → Type 0

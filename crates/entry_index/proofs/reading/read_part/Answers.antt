@@ -16,8 +16,8 @@ returns-then-generation-eq0-clause-found g c =
     all_told (g.D.Disk.disk a.disk.now).content (λ files. (x : Option Part) → IsPartAt (InFiles files) a.region a.number a.place x → None ≡ x)
     (λ files x is. none_at files a.region a.number a.place x (omega arith) is)
 
-pub returns-then-generation-gt-LAST_GENERATION-clause-outside : goal.returns-then-generation-gt-LAST_GENERATION-clause-outside
-returns-then-generation-gt-LAST_GENERATION-clause-outside g c file offset failed =
+pub returns-then-generation-gt-MOST_GENERATIONS-clause-outside : goal.returns-then-generation-gt-MOST_GENERATIONS-clause-outside
+returns-then-generation-gt-MOST_GENERATIONS-clause-outside g c file offset failed =
     let a = c.args in
     all_told (g.D.Disk.disk a.disk.now).content (λ files. (x : Option Part) → IsPartAt (InFiles files) a.region a.number a.place x → ⊥)
     (λ files x is. none_past files a.region a.number a.place x (omega arith) is)

@@ -1,4 +1,5 @@
 use Rattle.std.proofs.Common.{◌<◌, ◌+◌, ◌∙◌, ℕ, refl, arith}
+use Rattle.global_defs.specs.declared.limits.TheConstants.{MOST_REGIONS}
 use Rattle.disk_defs.specs.Disk.{Image}
 use Rattle.disk_defs.proofs.Moments.{started, nothing_new}
 use Rattle.disk_defs.proofs.Told.{told_at, both_weak}
@@ -27,7 +28,7 @@ loop-region-preserved g c =
     let v = view l.disk in
     let w = view c.sync_region.new.disk in
     let call = c.sync_region.ensures in
-    let low : l.region < 8 = omega (arith, c.requires.regions) in
+    let low : l.region < MOST_REGIONS = omega (arith, c.requires.regions) in
     record {
       durable = both_weak u.content (λ files. (r : ℕ) → r < l.region → AreDurable v r c.args.last files) (AreDurable w l.region c.args.last) (λ files. (r : ℕ) → r < l.region + 1 → AreDurable w r c.args.last files) inv.durable
           (told_at u.content v.content (AreDurable w l.region c.args.last) inv.content c.in_ok-sync_region.ensures.durable) (λ files all here. durable_more v w files l.region c.args.last low call.frame here all);

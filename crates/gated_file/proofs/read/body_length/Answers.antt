@@ -1,4 +1,5 @@
 use Rattle.std.proofs.Common.{◌≡◌, ◌≤◌, ◌<◌, ◌+◌, ◌-◌, length, take, drop, arith}
+use Rattle.global_defs.specs.declared.limits.TheConstants.{LONGEST_BODY}
 use Rattle.disk_defs.specs.Gates.{NoGate, gate_at}
 use Rattle.disk_defs.proofs.Told.{told_at, both_weak}
 use Rattle.gated_file.proofs.Gates.{WasRead, was_short, was_unfit, was_open}
@@ -14,7 +15,7 @@ returns-then-size-at-lt6-clause-outside g c _ =
 pub returns-then-n-eq0-clause-outside : goal.returns-then-n-eq0-clause-outside
 returns-then-n-eq0-clause-outside g c _ =
     let n = c.big_endian-n.result in
-    let unfit : 1 ≤ n → n ≤ 1048576 → c.args.size - c.args.at < n + 6 = λ low high. elim c.then-n-eq0.branch [
+    let unfit : 1 ≤ n → n ≤ LONGEST_BODY → c.args.size - c.args.at < n + 6 = λ low high. elim c.then-n-eq0.branch [
       | then-n-eq0-via-then-n-eq0 w ↦ absurd (omega (arith, low, w.if-n-eq0.true))
       | then-n-eq0-via-else-n-eq0+then-n-gt-LONGEST w ↦ absurd (omega (arith, high, w.if-n-gt-LONGEST.true))
       | then-n-eq0-via-else-n-eq0+else-n-gt-LONGEST+then-size-at w ↦ w.if-size-at.true

@@ -3,9 +3,9 @@ use Rattle.std.specs.FinMap as globals
 use Rattle.journal_defs.specs.Leaves.{ROOM}
 use Rattle.block_fmt.specs.Cells.{size_of}
 use Rattle.gvt_leaf.specs.Chained.{leaf_cells, replaced}
-use Rattle.gvt_leaf.proofs.Bytes.{bytes_cmp}
 use Rattle.gvt_leaf.proofs.Edited.{put_by, part_fits, cut_fits, part_is}
 use Rattle.gvt_leaf.proofs.edits.put_apart.Goals as goal
+use Rattle.global_defs.proofs.Basics.{bytes_cmp}
 
 pub put-requires-clause-fits : goal.put-requires-clause-fits
 put-requires-clause-fits c =

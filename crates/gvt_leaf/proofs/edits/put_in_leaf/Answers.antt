@@ -4,9 +4,9 @@ use Rattle.std.specs.FinMap as globals
 use Rattle.journal_defs.specs.Leaves.{Cell, ROOM}
 use Rattle.block_fmt.specs.Cells.{size_of, StandsIn, BelongsAt}
 use Rattle.gvt_leaf.specs.Chained.{leaf_cells}
-use Rattle.gvt_leaf.proofs.Bytes.{bytes_cmp}
 use Rattle.gvt_leaf.proofs.Edited.{not_fits, put_alone, opened_full, opened_inside, opened_belongs, opened_put}
 use Rattle.gvt_leaf.proofs.edits.put_in_leaf.Goals as goal
+use Rattle.global_defs.proofs.Basics.{bytes_cmp}
 
 pub returns-then-fits_at-clause-put : goal.returns-then-fits_at-clause-put
 returns-then-fits_at-clause-put c = put_alone c.args.chain.now.leaves c.put_at.new.self.leaves c.args.i c.args.key.now c.args.value.now c.put_at.ensures.leaves

@@ -1,6 +1,6 @@
 use Rattle.std.proofs.Common.{◌↔◌, drop, map}
+use Rattle.global_defs.specs.Rising.{StartsRise}
 use Rattle.gvn_model.specs.Reigns.{reign_value}
-use Rattle.journal_defs.specs.Stands.{StartsRise}
 use Rattle.instance_file.proofs.following.starts_rise.Given as goal
 
 -- all rise where those that are left do

@@ -2,11 +2,11 @@ use Rattle.std.proofs.Common.{◌≡◌, ◌+◌, length, map, take, drop, Some,
 use Rattle.std.proofs.lemmas.List.{take_all, drop_all, length-take-le, length-map}
 use Rattle.std.proofs.lemmas.Option.{slice_get-get_or}
 use Rattle.std.specs.Prelude.{slice_get, slice_index_or}
-use Rattle.journal_defs.specs.Stands.{StartsRise}
 use Rattle.gvn_model.specs.Reigns.{reign_value}
 use Rattle.instance_file.specs.Values.{record_value}
 use Rattle.instance_file.proofs.Bounds.{bound_here, length-bounds}
 use Rattle.global_defs.proofs.Starts.{last_start}
+use Rattle.global_defs.specs.Rising.{StartsRise}
 use Rattle.instance_file.proofs.Scanning.{scanned_all, next_none, rising_some, last_some, wrong_some}
 use Rattle.instance_file.proofs.surviving.wrong_reign.Goals as goal
 use Rattle.instance_file.proofs.surviving.wrong_reign.Goals.{in-Some+else-reign-low, in_default}

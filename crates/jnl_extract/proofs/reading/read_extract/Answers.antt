@@ -1,4 +1,5 @@
 use Rattle.std.proofs.Common.{◌≡◌, ◌≤◌, ◌^◌, List, ℕ, sym, ◌∙◌}
+use Rattle.global_defs.specs.declared.limits.TheConstants.{NUMBERS_END}
 use Rattle.global_defs.specs.Fields.{IsSiteName}
 use Rattle.jnl_extract.specs.Lines.{header_body}
 use Rattle.jnl_extract.proofs.Cuts.{one_cut}
@@ -19,8 +20,8 @@ head_none c =
     no_header c.args.text.now (λ site from more n f l e.
     (let s = one_cut 10 text c.in-Some.rest.now (header_body site from) more c.in-Some.ensures.first (header_clean site from n l) (sym c.in-Some.ensures.cases ∙ e) in
     at_none c.in_ok-read_header-in-Some.field-0
-    ((name : List ℕ) (k : ℕ) → IsSiteName name → 1 ≤ k → k ≤ 2 ^ 40 → text ≡ header_body name k → ⊥)
-    (λ p. IsSiteName p.0 × (1 ≤ p.1) × (p.1 ≤ 2 ^ 40) × (text ≡ header_body p.0 p.1))
+    ((name : List ℕ) (k : ℕ) → IsSiteName name → 1 ≤ k → k ≤ NUMBERS_END → text ≡ header_body name k → ⊥)
+    (λ p. IsSiteName p.0 × (1 ≤ p.1) × (p.1 ≤ NUMBERS_END) × (text ≡ header_body p.0 p.1))
     c.in-None-2.is c.in_ok-read_header-in-Some.ensures site from n f l s.0))
 
 pub returns-in-None-clause-bad : goal.returns-in-None-clause-bad

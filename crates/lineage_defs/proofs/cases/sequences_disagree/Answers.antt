@@ -1,6 +1,7 @@
 use Rattle.std.proofs.Common.{◌≡◌, ℕ, [], ◌∷◌, refl, ap, arith}
 use Rattle.global_defs.specs.Entry.{Entry}
-use Rattle.lineage_defs.specs.Lineage.{Agree, SerialsRise}
+use Rattle.global_defs.specs.Rising.{SerialsRise}
+use Rattle.lineage_defs.specs.Lineage.{Agree}
 use Rattle.lineage_defs.specs.Samples.{A, entry}
 use Rattle.lineage_defs.proofs.cases.sequences_disagree.Goals as goal
 

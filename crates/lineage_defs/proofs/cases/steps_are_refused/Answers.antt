@@ -1,6 +1,6 @@
 use Rattle.std.proofs.Common.{◌≡◌, ℕ, ◌≤◌, List, [], ◌∷◌, length, Some, None, slice_get, refl, ◌∙◌, ap, subst, arith}
 use Rattle.global_defs.specs.Entry.{Entry, Sequence}
-use Rattle.lineage_defs.specs.Lists.{At}
+use Rattle.global_defs.specs.Beside.{At}
 use Rattle.lineage_defs.specs.Sites.{Following, Waiting, Site, World, hardened_part}
 use Rattle.lineage_defs.specs.Events.{Sends, Follows, IsLeft, IfFollowing, resumed, set_back, Happens, Crash, Roll}
 use Rattle.lineage_defs.specs.Samples.{A, B, entry, unhardened, whole, behind, parted}

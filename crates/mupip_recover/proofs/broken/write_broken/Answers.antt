@@ -1,7 +1,8 @@
 use Rattle.std.proofs.Common.{ℕ, List, [], ◌≡◌, ◌++◌, map, OnOk, ◌∙◌, ap, subst}
-use Rattle.journal_defs.specs.Instance.{NamedMode, site_name, regions}
+use Rattle.global_defs.specs.Region.{Region}
+use Rattle.gvn_model.specs.Regions.{named_region}
+use Rattle.journal_defs.specs.Instance.{site_name}
 use Rattle.journal_defs.specs.Broken.{broken_text}
-use Rattle.instance_file.specs.Values.{named_mode}
 use Rattle.mupip_recover.specs.Broken.{broken_of}
 use Rattle.mupip_recover.proofs.broken.write_broken.Goals as goal
 
@@ -10,10 +11,10 @@ returns-clause-ok c =
     let instance = c.args.instance.now in
     let n = c.args.length in
     let journals = map (λ j. j.items) c.args.journals.now in
-    let name = c.site_of-site.ensures.name ∙ ap site_name c.as_slice.ensures in
-    let all = c.site_of-site.ensures.regions ∙ ap regions c.as_slice.ensures in
+    let name = c.name-site.ensures in
+    let all = c.regions.ensures in
     let text =
-    c.as_slice-2.ensures ∙ c.in_ok-add_regions.ensures instance c.in_ok-cuts.ensures [] c.new-text.ensures
-    ∙ ap (λ (s : List ℕ). broken_text s n (broken_of instance n journals (map named_mode c.site_of-site.result.regions.now))) name
-    ∙ ap (λ (rs : List NamedMode). broken_text (site_name instance) n (broken_of instance n journals rs)) all in
+    c.as_slice.ensures ∙ c.in_ok-add_regions.ensures instance c.in_ok-cuts.ensures [] c.new-text.ensures
+    ∙ ap (λ (s : List ℕ). broken_text s n (broken_of instance n journals (map named_region c.regions.result.now))) name
+    ∙ ap (λ (rs : List Region). broken_text (site_name instance) n (broken_of instance n journals rs)) all in
     subst (λ (t : List ℕ). OnOk c.push_all.result (c.push_all.new.self ≡ c.args.out.now ++ t)) text c.push_all.ensures.ok

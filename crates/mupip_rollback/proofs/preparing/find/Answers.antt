@@ -1,7 +1,6 @@
-use Rattle.std.proofs.Common.{◌⊎◌, inl, suc, List, length, map, ap}
+use Rattle.std.proofs.Common.{◌⊎◌, inl, suc, length, refl}
 use Rattle.disk_defs.proofs.Told.{weaker_told}
-use Rattle.instance_file.specs.Values.{record_value}
-use Rattle.journal_defs.specs.Instance.{InstanceRecord, generation, regions}
+use Rattle.journal_defs.specs.Instance.{generation, regions}
 use Rattle.site_defs.specs.Outside.{IsOutsideSite, IsBegunAhead}
 use Rattle.site_store.proofs.Founded.{found_moved}
 use Rattle.mupip_rollback.proofs.Errors.{site_was, files_was}
@@ -19,23 +18,20 @@ returns-in-Ok-see_ahead-clause-found g c =
 
 pub returns-in-Ok-see_ahead-clause-ahead : goal.returns-in-Ok-see_ahead-clause-ahead
 returns-in-Ok-see_ahead-clause-ahead g c =
-    let qs = map record_value c.as_slice-records.result.now in
-    let same = c.as_slice-records.ensures in
+    let rs = c.in-Ok.found.read.log.records in
     founded.ahead (g.D.Disk.disk c.args.disk.now) (g.D.Disk.disk c.find_files.new.disk) c.in-Ok.found c.in-Ok.ensures.has c.in-Ok.ensures.found (g.D.Disk.disk c.see_ahead.new.disk) c.find_files.ensures.content
-    (length (regions qs)) (suc (suc (generation qs))) (ap (λ (l : List InstanceRecord). length (regions l)) same) (ap (λ (l : List InstanceRecord). suc (suc (generation l))) same) c.in-Ok-see_ahead.ensures.next c.in-Ok-see_ahead.ensures.durable
+    (length (regions rs)) (suc (suc (generation rs))) refl refl c.in-Ok-see_ahead.ensures.next c.in-Ok-see_ahead.ensures.durable
 
 pub returns-in-Err-see_ahead-clause-place : goal.returns-in-Err-see_ahead-clause-place
 returns-in-Err-see_ahead-clause-place g c = λ file offset is.
-    let qs = map record_value c.as_slice-records.result.now in
-    let same = c.as_slice-records.ensures in
+    let rs = c.in-Ok.found.read.log.records in
     founded.begun_ahead (g.D.Disk.disk c.args.disk.now) (g.D.Disk.disk c.find_files.new.disk) c.in-Ok.found c.in-Ok.ensures.has c.in-Ok.ensures.found file offset c.find_files.ensures.content
-    (length (regions qs)) (suc (suc (generation qs))) (ap (λ (l : List InstanceRecord). length (regions l)) same) (ap (λ (l : List InstanceRecord). suc (suc (generation l))) same)
+    (length (regions rs)) (suc (suc (generation rs))) refl refl
     (c.in-Err-see_ahead.ensures.place file offset (files_was c.in-Err-see_ahead.error c.in_files.result file offset c.in_files.ensures is))
 
 pub returns-in-Err-see_ahead-clause-outside : goal.returns-in-Err-see_ahead-clause-outside
 returns-in-Err-see_ahead-clause-outside g c = λ file offset is.
-    let qs = map record_value c.as_slice-records.result.now in
-    let same = c.as_slice-records.ensures in
+    let rs = c.in-Ok.found.read.log.records in
     founded.none_begun (g.D.Disk.disk c.args.disk.now) (g.D.Disk.disk c.find_files.new.disk) c.in-Ok.found c.in-Ok.ensures.has c.in-Ok.ensures.found c.find_files.ensures.content
-    (length (regions qs)) (suc (suc (generation qs))) (ap (λ (l : List InstanceRecord). length (regions l)) same) (ap (λ (l : List InstanceRecord). suc (suc (generation l))) same)
+    (length (regions rs)) (suc (suc (generation rs))) refl refl
     (c.in-Err-see_ahead.ensures.outside file offset (files_was c.in-Err-see_ahead.error c.in_files.result file offset c.in_files.ensures is))

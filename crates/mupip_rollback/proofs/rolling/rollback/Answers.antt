@@ -30,7 +30,7 @@ returns-clause-read g c =
     let size = c.len.ensures.count in
     let some : Entry = record { stamp = record { root = []; cycle = 0 }; transaction = record { origin = record { updater = 0; serial = 0 }; updates = [] } } in
     let many : length (replicate p.length some) ≡ p.length = length-replicate p.length some in
-    let newest : c.generation_in.result ≡ generation P.found.read.log.records = c.generation_in.ensures ∙ ap generation c.as_slice.ensures ∙ ap (λ l. generation l.records) P.log in (
+    let newest : c.generation.result ≡ generation P.found.read.log.records = c.generation.ensures ∙ ap (λ l. generation l.records) P.log in (
       record { instance = P.found.read.log.records; starts = λ r. []; epochs = λ r. []; texts = []; losts = []; sequence = replicate p.length some },
       omega (arith, many, kept, size),
       omega (arith, newest),
@@ -43,9 +43,9 @@ returns-clause-held g c =
     let P = c.in_ok-prepared.ensures.prepared in
     let size = c.len.ensures.count in
     let low : generation p.log.records < 65534 = subst (λ l. generation l.records < 65534) (sym P.log) P.has.low in
-    let newest : c.generation_in.result ≡ generation p.log.records = c.generation_in.ensures ∙ ap generation c.as_slice.ensures in
+    let newest : c.generation.result ≡ generation p.log.records = c.generation.ensures in
     weaker_told u.content (λ files. (x : Records) × (es : Sequence) × AreRecords files x × IsSequence x es × (x.instance ≡ p.log.records) × (entry_count p.kept.entries ≡ min c.args.to (length es)) × NoneIsWithout x (min c.args.to (length es)))
-    (λ files. (x : Records) × (es : Sequence) × AreRecords files x × IsSequence x es × (c.len.result ≡ min c.args.to (length es)) × (c.generation_in.result + 1 ≡ generation x.instance + 1) × (generation x.instance < 65534) × NoneIsWithout x (min c.args.to (length es)))
+    (λ files. (x : Records) × (es : Sequence) × AreRecords files x × IsSequence x es × (c.len.result ≡ min c.args.to (length es)) × (c.generation.result + 1 ≡ generation x.instance + 1) × (generation x.instance < 65534) × NoneIsWithout x (min c.args.to (length es)))
     c.in_ok-prepared.ensures.held (λ files h.
     let same : generation h.0.instance ≡ generation p.log.records = ap generation h.4 in
     let many = h.5 in

@@ -1,9 +1,9 @@
-use Rattle.std.proofs.Common.{◌⊎◌, ◌<◌, inl, ◌++◌, ◌∷◌, [], List, length, IfSome, sym, subst}
+use Rattle.std.proofs.Common.{◌⊎◌, ◌<◌, inl, ◌++◌, ◌∷◌, [], length, IfSome, arith}
 use Rattle.std.proofs.lemmas.Result.{IfOk-weaker}
 use Rattle.disk_defs.specs.Disk.{Files, Image}
 use Rattle.disk_defs.proofs.Told.{weaker_told}
 use Rattle.journal_defs.specs.Numbers.{INSTANCE}
-use Rattle.journal_defs.specs.Instance.{InstanceRecord, Mode, regions}
+use Rattle.journal_defs.specs.Instance.{Mode, regions}
 use Rattle.journal_defs.specs.Stands.{IsInstance}
 use Rattle.site_defs.specs.Outside.{IsNoInstance}
 use Rattle.mupip_rollback.specs.Setting.{HasNoRegion}
@@ -21,9 +21,10 @@ returns-then-not-has_region-clause-outside g c file offset is =
     let rs = c.in-Ok.log.records in
     let region = c.args.region in
     no_region (g.D.Disk.disk c.args.disk.now).content rs region c.in-Ok.ensures.reads c.requires.site (λ inside.
-    let own = subst (λ (l : List InstanceRecord). region < length (regions l)) (sym c.as_slice.ensures) inside in
-    let yes = c.has_region.ensures.1 own in
-    cc (yes, c.if-not-has_region.true))
+    let same = c.from.ensures in
+    let count = c.region_count.ensures in
+    let none = c.if-not-has_region.true in
+    omega (arith, same, count, none, inside))
 
 pub returns-clause-reads : goal.returns-clause-reads
 returns-clause-reads g c =
@@ -34,7 +35,7 @@ returns-clause-reads g c =
     let rs = c.in-Ok.log.records in
     let region = c.args.region in
     let before = c.args.before in
-    let inside : region < length (regions rs) = subst (λ (l : List InstanceRecord). region < length (regions l)) c.as_slice.ensures (c.has_region.ensures.0 c.if-not-has_region.false) in
+    let inside : region < length (regions rs) = (let same = c.from.ensures in let count = c.region_count.ensures in let some = c.if-not-has_region.false in omega (arith, same, count, some)) in
     IfOk-weaker c.append_mode.result (λ _. IfSome v.content (λ _. IfSome w.content (λ now. IsInstance (now INSTANCE) (rs ++ Mode region before ∷ [])))) (λ _. IfSome u.content (ReadsSet w.content region before))
     (λ done h. reads_set u v w rs region before inside (g.met.D.Disk.lawful c.read_instance.new.disk) (g.met.D.Disk.lawful c.append_mode.new.disk) c.in-Ok.ensures.any_moment c.in-Ok.ensures.content c.in-Ok.ensures.reads c.in-Ok.ensures.durable c.append_mode.ensures.frame h) c.append_mode.ensures.reads
 
@@ -47,7 +48,7 @@ returns-clause-images g c =
     let rs = c.in-Ok.log.records in
     let region = c.args.region in
     let before = c.args.before in
-    let inside : region < length (regions rs) = subst (λ (l : List InstanceRecord). region < length (regions l)) c.as_slice.ensures (c.has_region.ensures.0 c.if-not-has_region.false) in
+    let inside : region < length (regions rs) = (let same = c.from.ensures in let count = c.region_count.ensures in let some = c.if-not-has_region.false in omega (arith, same, count, some)) in
     IfOk-weaker c.append_mode.result (λ _. IfSome v.content (λ _. (f : Files) → Image w f → IsInstance (f INSTANCE) (rs ++ Mode region before ∷ []))) (λ _. IfSome u.content (ImagesSet u w region before))
     (λ done h. images_set u v w rs region before inside (g.met.D.Disk.lawful c.read_instance.new.disk) (g.met.D.Disk.lawful c.append_mode.new.disk) c.in-Ok.ensures.any_moment c.in-Ok.ensures.content c.in-Ok.ensures.reads c.in-Ok.ensures.durable c.append_mode.ensures.frame h) c.append_mode.ensures.images
 
@@ -60,7 +61,7 @@ returns-clause-any_moment g c =
     let rs = c.in-Ok.log.records in
     let region = c.args.region in
     let before = c.args.before in
-    let inside : region < length (regions rs) = subst (λ (l : List InstanceRecord). region < length (regions l)) c.as_slice.ensures (c.has_region.ensures.0 c.if-not-has_region.false) in
+    let inside : region < length (regions rs) = (let same = c.from.ensures in let count = c.region_count.ensures in let some = c.if-not-has_region.false in omega (arith, same, count, some)) in
     moments u v w rs region before inside (g.met.D.Disk.lawful c.read_instance.new.disk) (g.met.D.Disk.lawful c.append_mode.new.disk) c.in-Ok.ensures.any_moment c.in-Ok.ensures.content c.in-Ok.ensures.reads c.in-Ok.ensures.durable c.append_mode.ensures.frame c.append_mode.ensures.any_moment
 
 pub returns-clause-left : goal.returns-clause-left
@@ -72,7 +73,7 @@ returns-clause-left g c =
     let rs = c.in-Ok.log.records in
     let region = c.args.region in
     let before = c.args.before in
-    let inside : region < length (regions rs) = subst (λ (l : List InstanceRecord). region < length (regions l)) c.as_slice.ensures (c.has_region.ensures.0 c.if-not-has_region.false) in
+    let inside : region < length (regions rs) = (let same = c.from.ensures in let count = c.region_count.ensures in let some = c.if-not-has_region.false in omega (arith, same, count, some)) in
     lefts u v w rs region before inside (g.met.D.Disk.lawful c.read_instance.new.disk) (g.met.D.Disk.lawful c.append_mode.new.disk) c.in-Ok.ensures.any_moment c.in-Ok.ensures.content c.in-Ok.ensures.reads c.in-Ok.ensures.durable c.append_mode.ensures.frame c.append_mode.ensures.any_moment
 
 pub returns-clause-stands : goal.returns-clause-stands
@@ -84,5 +85,5 @@ returns-clause-stands g c =
     let rs = c.in-Ok.log.records in
     let region = c.args.region in
     let before = c.args.before in
-    let inside : region < length (regions rs) = subst (λ (l : List InstanceRecord). region < length (regions l)) c.as_slice.ensures (c.has_region.ensures.0 c.if-not-has_region.false) in
+    let inside : region < length (regions rs) = (let same = c.from.ensures in let count = c.region_count.ensures in let some = c.if-not-has_region.false in omega (arith, same, count, some)) in
     stands u v w rs region before inside (g.met.D.Disk.lawful c.read_instance.new.disk) (g.met.D.Disk.lawful c.append_mode.new.disk) c.in-Ok.ensures.any_moment c.in-Ok.ensures.content c.in-Ok.ensures.reads c.in-Ok.ensures.durable c.append_mode.ensures.frame c.append_mode.ensures.any_moment

@@ -2,11 +2,12 @@ use Rattle.std.proofs.Common.{◌≡◌, ◌+◌, ◌<◌, [], ◌∷◌, ◌++�
 use Rattle.std.specs.Prelude.{option_map}
 use Rattle.std.specs.List.{last_or}
 use Rattle.std.proofs.lemmas.List.{take_more, map-append}
+use Rattle.global_defs.specs.Rising.{begun_by}
 use Rattle.gvn_model.specs.Reigns.{reign_value}
-use Rattle.lineage_defs.specs.Histories.{begun_by}
-use Rattle.receiver_server.proofs.Knows.{begun-push, begun-push_late, last_push}
+use Rattle.receiver_server.proofs.Knows.{begun-push, begun-push_late}
 use Rattle.receiver_server.proofs.begun.begun.Goals as goal
 use Rattle.receiver_server.proofs.begun.begun.Goals.{then-reign-number, else-reign-number}
+use Rattle.global_defs.proofs.Basics.{last_or_push}
 
 pub loop-reign-preserved : goal.loop-reign-preserved
 loop-reign-preserved c =
@@ -22,7 +23,7 @@ loop-reign-preserved c =
       | then-reign-number w ↦ (
           let more = ap (begun_by n) e ∙ begun-push n front (reign_value x) w.if-reign-number.true in (
             w.count-is ∙ (ap (λ k. k + 1) c.loop-reign.invariant.0 ∙ sym (ap length more ∙ length-append (begun_by n front) (reign_value x ∷ []))),
-            ap (λ o. option_map (λ r. reign_value r.now) o) w.last-is ∙ sym (ap (last_or None) more ∙ last_push None (begun_by n front) (reign_value x)),
+            ap (λ o. option_map (λ r. reign_value r.now) o) w.last-is ∙ sym (ap (last_or None) more ∙ last_or_push None (begun_by n front) (reign_value x)),
             omega (arith, c.loop-reign.invariant.2, w.count-is),
           ))
       | else-reign-number w ↦ (

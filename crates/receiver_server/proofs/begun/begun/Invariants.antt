@@ -1,8 +1,8 @@
 use Rattle.std.proofs.Common.{◌≡◌, ◌≤◌, length, map, take, None}
 use Rattle.std.specs.Prelude.{option_map}
 use Rattle.std.specs.List.{last_or}
+use Rattle.global_defs.specs.Rising.{begun_by}
 use Rattle.gvn_model.specs.Reigns.{reign_value}
-use Rattle.lineage_defs.specs.Histories.{begun_by}
 use Rattle.receiver_server.proofs.begun.begun.Given as goal
 
 abbrev pub invariant-loop-reign : goal.invariant-loop-reign

@@ -1,6 +1,7 @@
 use Rattle.std.proofs.Common.{◌≡◌, ◌≤◌, ◌-◌, sym, ◌∙◌, ap, subst, arith}
+use Rattle.global_defs.specs.Counts.{counted_on}
 use Rattle.repl_disk.specs.Mem.{settled}
-use Rattle.repl_disk.specs.Table.{Entry, counted}
+use Rattle.repl_disk.specs.Table.{Entry}
 use Rattle.repl_disk.proofs.Tables.{is_kept, set_are_kept, set_to, set_calls, set_bytes, reads, entry_is}
 use Rattle.repl_disk.proofs.table.sync_file.Goals as goal
 
@@ -21,7 +22,7 @@ returns-clause-entries c f =
     let is = reads c.args.files.now.items c.args.number c.args.i d c.requires.first c.index_mut-file.ensures.value in
     let calls : c.sync.new.self.calls_left ≡ d.calls_left - 1 = omega (arith, c.sync.ensures.calls) in
     set_to c.args.files.now.items c.args.number c.args.i d c.requires.first c.index_mut-file.ensures.value c.sync.new.self _ c.sync.ensures.number
-    (entry_is (c.sync.ensures.mem ∙ ap (λ (e : Entry). settled e.mem.read) (sym is)) (c.sync.ensures.left ∙ ap (λ (e : Entry). e.left) (sym is)) (calls ∙ ap (λ (e : Entry). e.room.calls - 1) (sym is)) (c.sync.ensures.bytes ∙ ap (λ (e : Entry). e.room.bytes) (sym is)) (c.sync.ensures.syncs ∙ ap (λ (e : Entry). counted e.syncs) (sym is))) f
+    (entry_is (c.sync.ensures.mem ∙ ap (λ (e : Entry). settled e.mem.read) (sym is)) (c.sync.ensures.left ∙ ap (λ (e : Entry). e.left) (sym is)) (calls ∙ ap (λ (e : Entry). e.room.calls - 1) (sym is)) (c.sync.ensures.bytes ∙ ap (λ (e : Entry). e.room.bytes) (sym is)) (c.sync.ensures.syncs ∙ ap (λ (e : Entry). counted_on e.syncs) (sym is))) f
 
 pub returns-clause-all_calls : goal.returns-clause-all_calls
 returns-clause-all_calls c =

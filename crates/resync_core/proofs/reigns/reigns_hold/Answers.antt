@@ -1,6 +1,7 @@
 use Rattle.std.proofs.Common.{◌≡◌, ℕ, suc, ◌<◌, ◌≤◌, length, Some, slice_get, arith}
+use Rattle.global_defs.specs.declared.limits.TheConstants.{MOST_REIGNS}
 use Rattle.global_defs.specs.Prefix.{IsPrefix}
-use Rattle.lineage_defs.specs.Histories.{MOST_REIGNS, begun_by}
+use Rattle.global_defs.specs.Rising.{begun_by}
 use Rattle.lineage_defs.specs.Sites.{Site, World}
 use Rattle.lineage_defs.specs.Lineage.{IsFit}
 use Rattle.resync_core.proofs.BegunReigns.{fewer-begun}

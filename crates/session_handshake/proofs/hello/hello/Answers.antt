@@ -1,8 +1,9 @@
 use Rattle.std.proofs.Common.{ℕ, ◌+◌, List, sym, subst, arith}
 use Rattle.std.proofs.lemmas.List.{length-take}
+use Rattle.global_defs.specs.declared.limits.TheConstants.{MOST_REIGNS}
 use Rattle.global_defs.specs.Prefix.{History}
+use Rattle.global_defs.specs.Rising.{begun_by}
 use Rattle.gvn_model.specs.Entries.{history_value}
-use Rattle.lineage_defs.specs.Histories.{MOST_REIGNS, begun_by}
 use Rattle.wire_defs.specs.Frames.{Hello, IsFrame}
 use Rattle.ship_defs.specs.Greeting.{carried}
 use Rattle.session_handshake.proofs.Tellings.{all_told, hello_form}

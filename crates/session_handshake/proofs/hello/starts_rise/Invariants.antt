@@ -1,6 +1,6 @@
 use Rattle.std.proofs.Common.{◌↔◌, drop, map}
+use Rattle.global_defs.specs.Rising.{StartsRise}
 use Rattle.gvn_model.specs.Reigns.{reign_value}
-use Rattle.lineage_defs.specs.Histories.{StartsRise}
 use Rattle.session_handshake.proofs.hello.starts_rise.Given as goal
 
 -- all rise where those that are left do

@@ -1,9 +1,10 @@
 use Rattle.std.proofs.Common.{◌≡◌, ◌+◌, ◌<◌, ◌≤◌, List, [], ◌∷◌, ◌++◌, length, map, take, sym, ap, ◌∙◌, arith}
 use Rattle.std.proofs.lemmas.List.{take_more, map-append}
+use Rattle.global_defs.specs.declared.limits.TheConstants.{MOST_REIGNS}
 use Rattle.global_defs.specs.Entry as defs
+use Rattle.global_defs.specs.Rising.{begun_by}
 use Rattle.gvn_model.specs.declared.reign.Reign.{Reign}
 use Rattle.gvn_model.specs.Reigns.{reign_value}
-use Rattle.lineage_defs.specs.Histories.{MOST_REIGNS, begun_by}
 use Rattle.receiver_server.proofs.Knows.{begun-push, begun-push_late}
 use Rattle.session_handshake.proofs.Tellings.{take_push, take_full}
 use Rattle.session_handshake.proofs.hello.told_reigns.Goals as goal

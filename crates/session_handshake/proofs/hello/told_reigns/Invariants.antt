@@ -1,6 +1,7 @@
 use Rattle.std.proofs.Common.{◌≡◌, ◌+◌, map, take}
+use Rattle.global_defs.specs.declared.limits.TheConstants.{MOST_REIGNS}
+use Rattle.global_defs.specs.Rising.{begun_by}
 use Rattle.gvn_model.specs.Reigns.{reign_value}
-use Rattle.lineage_defs.specs.Histories.{MOST_REIGNS, begun_by}
 use Rattle.session_handshake.proofs.hello.told_reigns.Given as goal
 
 abbrev pub invariant-loop-reign : goal.invariant-loop-reign

@@ -1,8 +1,8 @@
 use Rattle.std.proofs.Common.{◌≡◌, inl, inr, List, ℕ, sym, subst, ◌∙◌, ◌+◌, arith}
 use Rattle.session_turns.specs.Sessions.{HasGiven}
 use Rattle.session_turns.proofs.Given.{goes_reigns, given_kept, given_goes, given_made, can_ship, gives_on, gives_later}
-use Rattle.session_turns.proofs.Progress.{ok_of}
 use Rattle.session_turns.proofs.machines.ship.Goals as goal
+use Rattle.global_defs.proofs.Basics.{ok_of}
 
 pub returns-in-Ok-Over-clause-sends : goal.returns-in-Ok-Over-clause-sends
 returns-in-Ok-Over-clause-sends g c = λ told from given.

@@ -3,9 +3,9 @@ use Rattle.std.specs.List.{AllByRecursion}
 use Rattle.global_defs.specs.Entry.{Reign}
 use Rattle.global_defs.specs.Fields.{IsReign}
 use Rattle.gvn_model.specs.Reigns.{reign_value}
-use Rattle.lineage_defs.specs.Histories.{StartsRise}
 use Rattle.ship_stands.proofs.Rising.{all_push, rise_push}
 use Rattle.global_defs.proofs.Starts.{last_start, last_push}
+use Rattle.global_defs.specs.Rising.{StartsRise}
 use Rattle.ship_stands.proofs.histories.history.Goals as goal
 
 pub loop-told-preserved : goal.loop-told-preserved

@@ -1,8 +1,8 @@
 use Rattle.std.proofs.Common.{◌≡◌}
 use Rattle.std.specs.List.{AllByRecursion}
 use Rattle.global_defs.specs.Fields.{IsReign}
-use Rattle.lineage_defs.specs.Histories.{StartsRise}
 use Rattle.global_defs.proofs.Starts.{last_start}
+use Rattle.global_defs.specs.Rising.{StartsRise}
 use Rattle.ship_stands.proofs.histories.history.Given as goal
 
 abbrev pub invariant-loop-told : goal.invariant-loop-told

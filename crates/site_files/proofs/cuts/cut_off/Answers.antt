@@ -1,4 +1,4 @@
-use Rattle.std.proofs.Common.{◌≡◌, inr, ℕ, suc, ◌+◌, ◌≤◌, length, IfSome, ◌∙◌, ap, subst, arith}
+use Rattle.std.proofs.Common.{◌≡◌, inr, ℕ, suc, ◌+◌, ◌≤◌, length, IfSome, ap, subst, arith}
 use Rattle.disk_defs.specs.Disk.{Files, Image, From, OnFile, AtEachMoment, ReadsAfter}
 use Rattle.disk_defs.specs.Frames.{Only, OthersStay}
 use Rattle.disk_defs.proofs.Frames.{others_wider}
@@ -16,8 +16,8 @@ returns-in_err-write_broken-clause-any_moment g c =
     let t = view c.write_broken.new.disk in
     let rs = c.args.log.records in
     let text = c.args.broken.now in
-    let found : c.generation_in-next.result ≡ generation rs = c.generation_in-next.ensures ∙ ap generation c.as_slice.ensures in
-    let file : broken_file (c.generation_in-next.result + 1) ≡ next_broken rs = (let next : c.generation_in-next.result + 1 ≡ suc (generation rs) = omega (arith, found) in ap broken_file next) in
+    let found : c.generation-next.result ≡ generation rs = c.generation-next.ensures in
+    let file : broken_file (c.generation-next.result + 1) ≡ next_broken rs = (let next : c.generation-next.result + 1 ≡ suc (generation rs) = omega (arith, found) in ap broken_file next) in
     let text_run : AtEachMoment u t (From (Image u) (OnFile (next_broken rs) (IsNoLonger text))) = subst (λ (k : ℕ). AtEachMoment u t (From (Image u) (OnFile k (IsNoLonger text)))) file c.write_broken.ensures.any_moment in
     drawings.text_moments rs c.args.count text c.requires.form.0 c.requires.form.1 u c.requires.read t text_run
 
@@ -28,8 +28,8 @@ returns-in_err-write_broken-clause-reads g c =
     let t = view c.write_broken.new.disk in
     let rs = c.args.log.records in
     let text = c.args.broken.now in
-    let found : c.generation_in-next.result ≡ generation rs = c.generation_in-next.ensures ∙ ap generation c.as_slice.ensures in
-    let file : broken_file (c.generation_in-next.result + 1) ≡ next_broken rs = (let next : c.generation_in-next.result + 1 ≡ suc (generation rs) = omega (arith, found) in ap broken_file next) in
+    let found : c.generation-next.result ≡ generation rs = c.generation-next.ensures in
+    let file : broken_file (c.generation-next.result + 1) ≡ next_broken rs = (let next : c.generation-next.result + 1 ≡ suc (generation rs) = omega (arith, found) in ap broken_file next) in
     let text_reads : ReadsAfter (OnFile (next_broken rs) (IsNoLonger text)) u.content t.content = subst (λ (k : ℕ). ReadsAfter (OnFile k (IsNoLonger text)) u.content t.content) file c.write_broken.ensures.reads in
     drawings.text_reads rs c.args.count text c.requires.form.0 c.requires.form.1 u c.requires.read t text_reads
 
@@ -40,8 +40,8 @@ returns-in_err-write_broken-clause-frame g c =
     let t = view c.write_broken.new.disk in
     let rs = c.args.log.records in
     let text = c.args.broken.now in
-    let found : c.generation_in-next.result ≡ generation rs = c.generation_in-next.ensures ∙ ap generation c.as_slice.ensures in
-    let file : broken_file (c.generation_in-next.result + 1) ≡ next_broken rs = (let next : c.generation_in-next.result + 1 ≡ suc (generation rs) = omega (arith, found) in ap broken_file next) in
+    let found : c.generation-next.result ≡ generation rs = c.generation-next.ensures in
+    let file : broken_file (c.generation-next.result + 1) ≡ next_broken rs = (let next : c.generation-next.result + 1 ≡ suc (generation rs) = omega (arith, found) in ap broken_file next) in
     let first_stays : OthersStay (Only (next_broken rs)) u t = subst (λ (k : ℕ). OthersStay (Only k) u t) file c.write_broken.ensures.frame in
     others_wider (Only (next_broken rs)) (AreCut rs) u t (λ f e. inr e) first_stays
 
@@ -52,8 +52,8 @@ cut-requires-clause-stands g c =
     let t = view c.write_broken.new.disk in
     let rs = c.args.log.records in
     let text = c.args.broken.now in
-    let found : c.generation_in-next.result ≡ generation rs = c.generation_in-next.ensures ∙ ap generation c.as_slice.ensures in
-    let file : broken_file (c.generation_in-next.result + 1) ≡ next_broken rs = (let next : c.generation_in-next.result + 1 ≡ suc (generation rs) = omega (arith, found) in ap broken_file next) in
+    let found : c.generation-next.result ≡ generation rs = c.generation-next.ensures in
+    let file : broken_file (c.generation-next.result + 1) ≡ next_broken rs = (let next : c.generation-next.result + 1 ≡ suc (generation rs) = omega (arith, found) in ap broken_file next) in
     let first_stays : OthersStay (Only (next_broken rs)) u t = subst (λ (k : ℕ). OthersStay (Only k) u t) file c.write_broken.ensures.frame in
     drawings.cut_stands rs c.args.count text c.requires.form.0 c.requires.form.1 u c.requires.read t first_stays
 
@@ -64,8 +64,8 @@ cut-requires-clause-durable g c =
     let t = view c.write_broken.new.disk in
     let rs = c.args.log.records in
     let text = c.args.broken.now in
-    let found : c.generation_in-next.result ≡ generation rs = c.generation_in-next.ensures ∙ ap generation c.as_slice.ensures in
-    let file : broken_file (c.generation_in-next.result + 1) ≡ next_broken rs = (let next : c.generation_in-next.result + 1 ≡ suc (generation rs) = omega (arith, found) in ap broken_file next) in
+    let found : c.generation-next.result ≡ generation rs = c.generation-next.ensures in
+    let file : broken_file (c.generation-next.result + 1) ≡ next_broken rs = (let next : c.generation-next.result + 1 ≡ suc (generation rs) = omega (arith, found) in ap broken_file next) in
     let first_stays : OthersStay (Only (next_broken rs)) u t = subst (λ (k : ℕ). OthersStay (Only k) u t) file c.write_broken.ensures.frame in
     drawings.cut_durable rs c.args.count text c.requires.form.0 c.requires.form.1 u c.requires.read t first_stays
 
@@ -76,8 +76,8 @@ returns-clause-any_moment g c =
     let t = view c.write_broken.new.disk in
     let rs = c.args.log.records in
     let text = c.args.broken.now in
-    let found : c.generation_in-next.result ≡ generation rs = c.generation_in-next.ensures ∙ ap generation c.as_slice.ensures in
-    let file : broken_file (c.generation_in-next.result + 1) ≡ next_broken rs = (let next : c.generation_in-next.result + 1 ≡ suc (generation rs) = omega (arith, found) in ap broken_file next) in
+    let found : c.generation-next.result ≡ generation rs = c.generation-next.ensures in
+    let file : broken_file (c.generation-next.result + 1) ≡ next_broken rs = (let next : c.generation-next.result + 1 ≡ suc (generation rs) = omega (arith, found) in ap broken_file next) in
     let first_stays : OthersStay (Only (next_broken rs)) u t = subst (λ (k : ℕ). OthersStay (Only k) u t) file c.write_broken.ensures.frame in
     let text_run : AtEachMoment u t (From (Image u) (OnFile (next_broken rs) (IsNoLonger text))) = subst (λ (k : ℕ). AtEachMoment u t (From (Image u) (OnFile k (IsNoLonger text)))) file c.write_broken.ensures.any_moment in
     let done : IfSome u.content (λ files. length (files (next_broken rs)) ≤ length text → (d : Files) → Image t d → From (Image u) (OnFile (next_broken rs) (IsWritten text)) d) =
@@ -92,8 +92,8 @@ returns-clause-reads g c =
     let t = view c.write_broken.new.disk in
     let rs = c.args.log.records in
     let text = c.args.broken.now in
-    let found : c.generation_in-next.result ≡ generation rs = c.generation_in-next.ensures ∙ ap generation c.as_slice.ensures in
-    let file : broken_file (c.generation_in-next.result + 1) ≡ next_broken rs = (let next : c.generation_in-next.result + 1 ≡ suc (generation rs) = omega (arith, found) in ap broken_file next) in
+    let found : c.generation-next.result ≡ generation rs = c.generation-next.ensures in
+    let file : broken_file (c.generation-next.result + 1) ≡ next_broken rs = (let next : c.generation-next.result + 1 ≡ suc (generation rs) = omega (arith, found) in ap broken_file next) in
     let first_stays : OthersStay (Only (next_broken rs)) u t = subst (λ (k : ℕ). OthersStay (Only k) u t) file c.write_broken.ensures.frame in
     let as_read : IfSome u.content (λ files. length (files (next_broken rs)) ≤ length text → ReadsAfter (OnFile (next_broken rs) (IsWritten text)) u.content t.content) =
     subst (λ (k : ℕ). IfSome u.content (λ files. length (files k) ≤ length text → ReadsAfter (OnFile k (IsWritten text)) u.content t.content)) file c.in_ok-write_broken.ensures.as_read in
@@ -107,8 +107,8 @@ returns-clause-frame g c =
     let t = view c.write_broken.new.disk in
     let rs = c.args.log.records in
     let text = c.args.broken.now in
-    let found : c.generation_in-next.result ≡ generation rs = c.generation_in-next.ensures ∙ ap generation c.as_slice.ensures in
-    let file : broken_file (c.generation_in-next.result + 1) ≡ next_broken rs = (let next : c.generation_in-next.result + 1 ≡ suc (generation rs) = omega (arith, found) in ap broken_file next) in
+    let found : c.generation-next.result ≡ generation rs = c.generation-next.ensures in
+    let file : broken_file (c.generation-next.result + 1) ≡ next_broken rs = (let next : c.generation-next.result + 1 ≡ suc (generation rs) = omega (arith, found) in ap broken_file next) in
     let first_stays : OthersStay (Only (next_broken rs)) u t = subst (λ (k : ℕ). OthersStay (Only k) u t) file c.write_broken.ensures.frame in
     let v = view c.cut.new.disk in
     drawings.cut_frame rs c.args.count text c.requires.form.0 c.requires.form.1 u c.requires.read t v first_stays c.cut.ensures.frame
@@ -120,8 +120,8 @@ returns-clause-drawn g c =
     let t = view c.write_broken.new.disk in
     let rs = c.args.log.records in
     let text = c.args.broken.now in
-    let found : c.generation_in-next.result ≡ generation rs = c.generation_in-next.ensures ∙ ap generation c.as_slice.ensures in
-    let file : broken_file (c.generation_in-next.result + 1) ≡ next_broken rs = (let next : c.generation_in-next.result + 1 ≡ suc (generation rs) = omega (arith, found) in ap broken_file next) in
+    let found : c.generation-next.result ≡ generation rs = c.generation-next.ensures in
+    let file : broken_file (c.generation-next.result + 1) ≡ next_broken rs = (let next : c.generation-next.result + 1 ≡ suc (generation rs) = omega (arith, found) in ap broken_file next) in
     let first_stays : OthersStay (Only (next_broken rs)) u t = subst (λ (k : ℕ). OthersStay (Only k) u t) file c.write_broken.ensures.frame in
     let done : IfSome u.content (λ files. length (files (next_broken rs)) ≤ length text → (d : Files) → Image t d → From (Image u) (OnFile (next_broken rs) (IsWritten text)) d) =
     subst (λ (k : ℕ). IfSome u.content (λ files. length (files k) ≤ length text → (d : Files) → Image t d → From (Image u) (OnFile k (IsWritten text)) d)) file c.in_ok-write_broken.ensures.written in
@@ -135,8 +135,8 @@ returns-clause-drawn_reads g c =
     let t = view c.write_broken.new.disk in
     let rs = c.args.log.records in
     let text = c.args.broken.now in
-    let found : c.generation_in-next.result ≡ generation rs = c.generation_in-next.ensures ∙ ap generation c.as_slice.ensures in
-    let file : broken_file (c.generation_in-next.result + 1) ≡ next_broken rs = (let next : c.generation_in-next.result + 1 ≡ suc (generation rs) = omega (arith, found) in ap broken_file next) in
+    let found : c.generation-next.result ≡ generation rs = c.generation-next.ensures in
+    let file : broken_file (c.generation-next.result + 1) ≡ next_broken rs = (let next : c.generation-next.result + 1 ≡ suc (generation rs) = omega (arith, found) in ap broken_file next) in
     let first_stays : OthersStay (Only (next_broken rs)) u t = subst (λ (k : ℕ). OthersStay (Only k) u t) file c.write_broken.ensures.frame in
     let as_read : IfSome u.content (λ files. length (files (next_broken rs)) ≤ length text → ReadsAfter (OnFile (next_broken rs) (IsWritten text)) u.content t.content) =
     subst (λ (k : ℕ). IfSome u.content (λ files. length (files k) ≤ length text → ReadsAfter (OnFile k (IsWritten text)) u.content t.content)) file c.in_ok-write_broken.ensures.as_read in

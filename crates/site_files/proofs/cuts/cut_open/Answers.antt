@@ -1,4 +1,4 @@
-use Rattle.std.proofs.Common.{◌≡◌, ℕ, ◌+◌, [], ◌∷◌, ◌++◌, IfSome, refl, ◌∙◌, ap, subst}
+use Rattle.std.proofs.Common.{◌≡◌, ℕ, ◌+◌, [], ◌∷◌, ◌++◌, IfSome, refl, ap, subst}
 use Rattle.disk_defs.specs.Disk.{AtEachMoment}
 use Rattle.disk_defs.specs.Frames.{OnlyOn}
 use Rattle.disk_defs.proofs.Told.{weaker_told}
@@ -18,8 +18,8 @@ returns-in-Ok-clause-any_moment g c =
     let i = c.args.instance in
     let rs = i.records in
     let n = c.args.count in
-    let found : c.generation_in-next.result ≡ generation rs = c.generation_in-next.ensures ∙ ap generation c.as_slice.ensures in
-    let same : Cut n (c.generation_in-next.result + 1) ≡ next_cut rs n = ap (λ (k : ℕ). Cut n (k + 1)) found in
+    let found : c.generation-next.result ≡ generation rs = c.generation-next.ensures in
+    let same : Cut n (c.generation-next.result + 1) ≡ next_cut rs n = ap (λ (k : ℕ). Cut n (k + 1)) found in
     let has : IfSome u.content (λ _. HasRecords u i rs) = records_told u i c.requires.ready.state in
     let run : IfSome u.content (λ _. AtEachMoment u v (OnlyOn u INSTANCE (StandsWith rs (next_cut rs n)))) =
     weaker_told u.content (λ _. HasRecords u i rs) (λ _. AtEachMoment u v (OnlyOn u INSTANCE (StandsWith rs (next_cut rs n)))) has
@@ -34,8 +34,8 @@ returns-in-Ok-clause-reads g c =
     let i = c.args.instance in
     let rs = i.records in
     let n = c.args.count in
-    let found : c.generation_in-next.result ≡ generation rs = c.generation_in-next.ensures ∙ ap generation c.as_slice.ensures in
-    let same : Cut n (c.generation_in-next.result + 1) ≡ next_cut rs n = ap (λ (k : ℕ). Cut n (k + 1)) found in
+    let found : c.generation-next.result ≡ generation rs = c.generation-next.ensures in
+    let same : Cut n (c.generation-next.result + 1) ≡ next_cut rs n = ap (λ (k : ℕ). Cut n (k + 1)) found in
     let has : IfSome u.content (λ _. HasRecords u i rs) = records_told u i c.requires.ready.state in
     let run : IfSome u.content (λ _. AtEachMoment u v (OnlyOn u INSTANCE (StandsWith rs (next_cut rs n)))) =
     weaker_told u.content (λ _. HasRecords u i rs) (λ _. AtEachMoment u v (OnlyOn u INSTANCE (StandsWith rs (next_cut rs n)))) has
@@ -50,8 +50,8 @@ returns-in-Err-clause-any_moment g c =
     let i = c.args.instance in
     let rs = i.records in
     let n = c.args.count in
-    let found : c.generation_in-next.result ≡ generation rs = c.generation_in-next.ensures ∙ ap generation c.as_slice.ensures in
-    let same : Cut n (c.generation_in-next.result + 1) ≡ next_cut rs n = ap (λ (k : ℕ). Cut n (k + 1)) found in
+    let found : c.generation-next.result ≡ generation rs = c.generation-next.ensures in
+    let same : Cut n (c.generation-next.result + 1) ≡ next_cut rs n = ap (λ (k : ℕ). Cut n (k + 1)) found in
     let has : IfSome u.content (λ _. HasRecords u i rs) = records_told u i c.requires.ready.state in
     let run : IfSome u.content (λ _. AtEachMoment u v (OnlyOn u INSTANCE (StandsWith rs (next_cut rs n)))) =
     weaker_told u.content (λ _. HasRecords u i rs) (λ _. AtEachMoment u v (OnlyOn u INSTANCE (StandsWith rs (next_cut rs n)))) has
@@ -66,8 +66,8 @@ returns-in-Err-clause-reads g c =
     let i = c.args.instance in
     let rs = i.records in
     let n = c.args.count in
-    let found : c.generation_in-next.result ≡ generation rs = c.generation_in-next.ensures ∙ ap generation c.as_slice.ensures in
-    let same : Cut n (c.generation_in-next.result + 1) ≡ next_cut rs n = ap (λ (k : ℕ). Cut n (k + 1)) found in
+    let found : c.generation-next.result ≡ generation rs = c.generation-next.ensures in
+    let same : Cut n (c.generation-next.result + 1) ≡ next_cut rs n = ap (λ (k : ℕ). Cut n (k + 1)) found in
     let has : IfSome u.content (λ _. HasRecords u i rs) = records_told u i c.requires.ready.state in
     let run : IfSome u.content (λ _. AtEachMoment u v (OnlyOn u INSTANCE (StandsWith rs (next_cut rs n)))) =
     weaker_told u.content (λ _. HasRecords u i rs) (λ _. AtEachMoment u v (OnlyOn u INSTANCE (StandsWith rs (next_cut rs n)))) has
@@ -82,8 +82,8 @@ returns-in-Ok-clause-instance_file g c =
     let i = c.args.instance in
     let rs = i.records in
     let n = c.args.count in
-    let found : c.generation_in-next.result ≡ generation rs = c.generation_in-next.ensures ∙ ap generation c.as_slice.ensures in
-    let same : Cut n (c.generation_in-next.result + 1) ≡ next_cut rs n = ap (λ (k : ℕ). Cut n (k + 1)) found in
+    let found : c.generation-next.result ≡ generation rs = c.generation-next.ensures in
+    let same : Cut n (c.generation-next.result + 1) ≡ next_cut rs n = ap (λ (k : ℕ). Cut n (k + 1)) found in
     let has : IfSome u.content (λ _. HasRecords u i rs) = records_told u i c.requires.ready.state in
     let made = c.cut.new.self in
     let now : IfSome u.content (λ _. HasRecords v made (rs ++ next_cut rs n ∷ [])) =
@@ -99,8 +99,8 @@ returns-in-Ok-clause-drawn g c =
     let i = c.args.instance in
     let rs = i.records in
     let n = c.args.count in
-    let found : c.generation_in-next.result ≡ generation rs = c.generation_in-next.ensures ∙ ap generation c.as_slice.ensures in
-    let same : Cut n (c.generation_in-next.result + 1) ≡ next_cut rs n = ap (λ (k : ℕ). Cut n (k + 1)) found in
+    let found : c.generation-next.result ≡ generation rs = c.generation-next.ensures in
+    let same : Cut n (c.generation-next.result + 1) ≡ next_cut rs n = ap (λ (k : ℕ). Cut n (k + 1)) found in
     let has : IfSome u.content (λ _. HasRecords u i rs) = records_told u i c.requires.ready.state in
     let made = c.cut.new.self in
     let now : IfSome u.content (λ _. HasRecords v made (rs ++ next_cut rs n ∷ [])) =
@@ -116,8 +116,8 @@ returns-in-Ok-clause-drawn_reads g c =
     let i = c.args.instance in
     let rs = i.records in
     let n = c.args.count in
-    let found : c.generation_in-next.result ≡ generation rs = c.generation_in-next.ensures ∙ ap generation c.as_slice.ensures in
-    let same : Cut n (c.generation_in-next.result + 1) ≡ next_cut rs n = ap (λ (k : ℕ). Cut n (k + 1)) found in
+    let found : c.generation-next.result ≡ generation rs = c.generation-next.ensures in
+    let same : Cut n (c.generation-next.result + 1) ≡ next_cut rs n = ap (λ (k : ℕ). Cut n (k + 1)) found in
     let has : IfSome u.content (λ _. HasRecords u i rs) = records_told u i c.requires.ready.state in
     let made = c.cut.new.self in
     let now : IfSome u.content (λ _. HasRecords v made (rs ++ next_cut rs n ∷ [])) =

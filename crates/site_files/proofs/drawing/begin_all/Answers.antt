@@ -1,8 +1,7 @@
-use Rattle.std.proofs.Common.{rules, ◌≡◌, ◌+◌, ◌<◌, ℕ, suc, Bool, List, [], ◌∷◌, ◌++◌, length, map, Some, IfSome, sym, ap, subst, arith, length-append}
+use Rattle.std.proofs.Common.{rules, ◌≡◌, ◌+◌, ◌<◌, ℕ, suc, Bool, List, [], ◌∷◌, ◌++◌, length, Some, IfSome, sym, ap, subst, arith, length-append}
 use Rattle.std.specs.List.{slice_get}
 use Rattle.disk_defs.specs.Disk.{Files, Image, From, AtEachMoment}
 use Rattle.disk_defs.proofs.Frames.{others_same}
-use Rattle.instance_file.specs.Values.{record_value}
 use Rattle.journal_defs.specs.Journal.{JournalRecord}
 use Rattle.journal_defs.specs.Numbers.{journal_file}
 use Rattle.jnl_file.specs.Journal as journals
@@ -17,7 +16,7 @@ pub loop-region-init : goal.loop-region-init
 loop-region-init g c =
     let u = g.D.Disk.disk c.args.disk.now in
     let n = length c.args.last_began.now in
-    let first = first_by c.args.anew (map record_value c.args.records.now) c.args.generation c.args.last_began.now in
+    let first = first_by c.args.anew c.args.records.now c.args.generation c.args.last_began.now in
     record {
       number = search rules;
       ready = λ r j is. search (rules, is);
@@ -38,7 +37,7 @@ begin_next-requires-clause-empty g c =
     let lasts = c.args.last_began.now in
     let n = length lasts in
     let gen = c.args.generation in
-    let first = first_by c.args.anew (map record_value c.args.records.now) gen lasts in
+    let first = first_by c.args.anew c.args.records.now gen lasts in
     let r = l.region in
     let low : r < n = omega arith in
     beginning.empty_here u v v gen n first r low inv.frame inv.begun (g.met.D.Disk.lawful l.disk)
@@ -53,7 +52,7 @@ loop-region-preserved g c =
     let lasts = c.args.last_began.now in
     let n = length lasts in
     let gen = c.args.generation in
-    let first = first_by c.args.anew (map record_value c.args.records.now) gen lasts in
+    let first = first_by c.args.anew c.args.records.now gen lasts in
     let r = l.region in
     let low : r < n = omega arith in
     let w = view c.begin_next.new.disk in
@@ -88,7 +87,7 @@ returns-in_err-begin_next-clause-any_moment g c =
     let lasts = c.args.last_began.now in
     let n = length lasts in
     let gen = c.args.generation in
-    let first = first_by c.args.anew (map record_value c.args.records.now) gen lasts in
+    let first = first_by c.args.anew c.args.records.now gen lasts in
     let r = l.region in
     let low : r < n = omega arith in
     let w = view c.begin_next.new.disk in
@@ -106,7 +105,7 @@ returns-in_err-begin_next-clause-frame g c =
     let lasts = c.args.last_began.now in
     let n = length lasts in
     let gen = c.args.generation in
-    let first = first_by c.args.anew (map record_value c.args.records.now) gen lasts in
+    let first = first_by c.args.anew c.args.records.now gen lasts in
     let r = l.region in
     let low : r < n = omega arith in
     let w = view c.begin_next.new.disk in

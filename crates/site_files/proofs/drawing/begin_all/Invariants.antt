@@ -1,8 +1,7 @@
-use Rattle.std.proofs.Common.{◌≡◌, ◌≤◌, ℕ, [], ◌∷◌, length, map, Some, IfSome}
+use Rattle.std.proofs.Common.{◌≡◌, ◌≤◌, ℕ, [], ◌∷◌, length, Some, IfSome}
 use Rattle.std.specs.List.{slice_get}
 use Rattle.disk_defs.specs.Disk.{Files, Image, From, AtEachMoment}
 use Rattle.disk_defs.specs.Frames.{OthersStay}
-use Rattle.instance_file.specs.Values.{record_value}
 use Rattle.jnl_file.specs.Journal as journals
 use Rattle.jnl_file.specs.Records.{settled}
 use Rattle.jnl_file.specs.declared.journal.Journal.{Journal}
@@ -15,7 +14,7 @@ invariant-loop-region g l =
     let u = view l.fn.disk in
     let w = view l.disk in
     let n = length l.fn.last_began in
-    let first = first_by l.fn.anew (map record_value l.fn.records) l.fn.generation l.fn.last_began in
+    let first = first_by l.fn.anew l.fn.records l.fn.generation l.fn.last_began in
     record {
       number : length l.journals.items ≡ l.region;
       ready : (r : ℕ) (j : Journal) → slice_get l.journals.items r ≡ Some j → journals.IsReady w j × journals.IsJournalOf j r l.fn.generation;

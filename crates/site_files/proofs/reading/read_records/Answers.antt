@@ -1,4 +1,4 @@
-use Rattle.std.proofs.Common.{◌≡◌, ℕ, List, Vec, Global, length, map, None, Some, ◌∙◌, ap, subst, arith}
+use Rattle.std.proofs.Common.{◌≡◌, ℕ, List, Vec, Global, length, map, ◌∙◌, ap, arith}
 use Rattle.std.proofs.lemmas.Result.{err_from_is_err_and}
 use Rattle.disk_defs.specs.Disk.{Files, Image}
 use Rattle.disk_defs.proofs.Moments.{nothing_new}
@@ -6,10 +6,9 @@ use Rattle.disk_defs.proofs.Told.{told_at}
 use Rattle.global_dir.specs.Directory.{Mapping}
 use Rattle.entry_index.specs.declared.placed.PlacedSign.{PlacedSign}
 use Rattle.entry_index.specs.Found.{HaveFound}
-use Rattle.journal_defs.specs.Instance.{InstanceRecord, generation, regions}
+use Rattle.journal_defs.specs.Instance.{generation, regions}
 use Rattle.journal_defs.specs.Sequence.{Placed}
 use Rattle.site_files.specs.declared.error.FilesError.TheVariants.{NotAFile}
-use Rattle.site_files.specs.Loading.{IsDirectory}
 use Rattle.site_defs.specs.Outside.{HaveJournals, AreOutside}
 use Rattle.site_files.proofs.Places.{instance_place, directory_place, journals_place}
 use Rattle.site_files.proofs.Errors.{handed_on, causes_on}
@@ -31,7 +30,7 @@ returns-in_err-plan-clause-place g c =
     rw (p.1, p.2) (λ file offset is.
     let there = handed_on c.in_err-plan.field-0.0 (NotAFile file offset) is in
     directory_place o file offset c.in_ok-log.log.records c.in_ok-log.ensures.reads
-    (subst (λ (k : List InstanceRecord). IsDirectory k None) c.as_slice.ensures (c.in_err-plan.ensures.outside file offset there))
+    (c.in_err-plan.ensures.outside file offset there)
     (c.in_err-plan.ensures.place file offset there))
 
 pub returns-in_err-found-clause-place : goal.returns-in_err-found-clause-place
@@ -41,9 +40,9 @@ returns-in_err-found-clause-place g c =
     let rs = c.in_ok-log.log.records in
     let n = c.in_ok-plan.plan.regions in
     let n2 = c.in_ok-plan.plan.newest in
-    let directory = subst (λ (k : List InstanceRecord). IsDirectory k (Some c.in_ok-plan.plan.directory)) c.as_slice.ensures c.in_ok-plan.ensures.directory in
+    let directory = c.in_ok-plan.ensures.directory in
     let many : n ≡ length (regions rs) = c.in_ok-plan.ensures.regions ∙ ap (λ (d : Mapping). d.regions) directory.2 in
-    let newest : n2 ≡ generation rs = c.in_ok-plan.ensures.newest ∙ ap generation c.as_slice.ensures in
+    let newest : n2 ≡ generation rs = c.in_ok-plan.ensures.newest in
     let p = err_from_is_err_and c.from_residual-in_err-found.result c.from_residual-in_err-found.ensures.1 in
     rw (p.1, p.2) (λ file offset is.
     journals_place o file offset rs c.in_ok-log.ensures.reads n n2 many newest
@@ -66,11 +65,11 @@ returns-in_err-plan-clause-outside g c =
     let p = err_from_is_err_and c.from_residual-in_err-plan.result c.from_residual-in_err-plan.ensures.1 in
     rw (p.1, p.2) (λ file offset is.
     hold_no_directory (g.D.Disk.disk c.args.disk.now).content c.in_ok-log.log.records c.in_ok-log.ensures.reads
-    (subst (λ (k : List InstanceRecord). IsDirectory k None) c.as_slice.ensures (c.in_err-plan.ensures.outside file offset (handed_on c.in_err-plan.field-0.0 (NotAFile file offset) is))))
+    (c.in_err-plan.ensures.outside file offset (handed_on c.in_err-plan.field-0.0 (NotAFile file offset) is)))
 
 pub read_journals-requires-clause-last : goal.read_journals-requires-clause-last
 read_journals-requires-clause-last g c =
-    let newest : c.in_ok-plan.plan.newest ≡ generation c.in_ok-log.log.records = c.in_ok-plan.ensures.newest ∙ ap generation c.as_slice.ensures in
+    let newest : c.in_ok-plan.plan.newest ≡ generation c.in_ok-log.log.records = c.in_ok-plan.ensures.newest in
     let low = generation_low c.in_ok-log.log.records c.in_ok-log.ensures.form in
     omega (arith, newest, low)
 
@@ -97,9 +96,9 @@ returns-in_err-found-clause-outside g c =
     let rs = c.in_ok-log.log.records in
     let n = c.in_ok-plan.plan.regions in
     let n2 = c.in_ok-plan.plan.newest in
-    let directory = subst (λ (k : List InstanceRecord). IsDirectory k (Some c.in_ok-plan.plan.directory)) c.as_slice.ensures c.in_ok-plan.ensures.directory in
+    let directory = c.in_ok-plan.ensures.directory in
     let many : n ≡ length (regions rs) = c.in_ok-plan.ensures.regions ∙ ap (λ (d : Mapping). d.regions) directory.2 in
-    let newest : n2 ≡ generation rs = c.in_ok-plan.ensures.newest ∙ ap generation c.as_slice.ensures in
+    let newest : n2 ≡ generation rs = c.in_ok-plan.ensures.newest in
     let None_there = λ (files : Files). (began : ℕ → ℕ) (journal : ℕ → List Placed) → HaveJournals n n2 began journal files → ⊥ in
     let p = err_from_is_err_and c.from_residual-in_err-found.result c.from_residual-in_err-found.ensures.1 in
     rw (p.1, p.2) (λ file offset is.
@@ -117,9 +116,9 @@ returns-clause-held g c =
     let g1 = c.in_ok-plan.plan.newest in
     let found = c.in_ok-found.found in
     let signs = map (λ (j : Vec PlacedSign Global). j.items) found.signs.items in
-    let directory = subst (λ (k : List InstanceRecord). IsDirectory k (Some c.in_ok-plan.plan.directory)) c.as_slice.ensures c.in_ok-plan.ensures.directory in
+    let directory = c.in_ok-plan.ensures.directory in
     let many : n ≡ length (regions rs) = c.in_ok-plan.ensures.regions ∙ ap (λ (d : Mapping). d.regions) directory.2 in
-    let newest : g1 ≡ generation rs = c.in_ok-plan.ensures.newest ∙ ap generation c.as_slice.ensures in
+    let newest : g1 ≡ generation rs = c.in_ok-plan.ensures.newest in
     rw (c.with_found.ensures.log, c.with_found.ensures.signs, c.with_found.ensures.entries, c.with_found.ensures.lowest)
     (are_held u.content rs c.args.lowest found.last_began.items signs found.entries n g1 many newest c.in_ok-log.ensures.reads
     (told_at u.content v.content (λ files. (journal : ℕ → List Placed) × HaveFound files rs c.args.lowest n g1 signs found.last_began.items found.entries journal) c.in_ok-log.ensures.content c.in_ok-found.ensures.found))
@@ -127,14 +126,14 @@ returns-clause-held g c =
 pub returns-clause-signs : goal.returns-clause-signs
 returns-clause-signs g c =
     let rs = c.in_ok-log.log.records in
-    let directory = subst (λ (k : List InstanceRecord). IsDirectory k (Some c.in_ok-plan.plan.directory)) c.as_slice.ensures c.in_ok-plan.ensures.directory in
+    let directory = c.in_ok-plan.ensures.directory in
     let many : c.in_ok-plan.plan.regions ≡ length (regions rs) = c.in_ok-plan.ensures.regions ∙ ap (λ (d : Mapping). d.regions) directory.2 in
     rw (c.with_found.ensures.log, c.with_found.ensures.signs) (c.in_ok-found.ensures.many ∙ many)
 
 pub returns-clause-rows : goal.returns-clause-rows
 returns-clause-rows g c =
     let rs = c.in_ok-log.log.records in
-    let directory = subst (λ (k : List InstanceRecord). IsDirectory k (Some c.in_ok-plan.plan.directory)) c.as_slice.ensures c.in_ok-plan.ensures.directory in
+    let directory = c.in_ok-plan.ensures.directory in
     let many : c.in_ok-plan.plan.regions ≡ length (regions rs) = c.in_ok-plan.ensures.regions ∙ ap (λ (d : Mapping). d.regions) directory.2 in
     rw (c.with_found.ensures.log, c.with_found.ensures.entries) (whole_rows c.in_ok-found.found.entries c.in_ok-plan.plan.regions (length (regions rs)) many c.in_ok-found.ensures.rows)
 

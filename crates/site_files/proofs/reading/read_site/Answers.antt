@@ -1,17 +1,15 @@
-use Rattle.std.proofs.Common.{◌≡◌, ◌+◌, ◌≤◌, ◌<◌, inr, ℕ, suc, List, Vec, Global, length, map, None, Some, ◌∙◌, ap, subst, arith}
+use Rattle.std.proofs.Common.{◌≡◌, ◌+◌, ◌<◌, inr, ℕ, suc, List, Vec, Global, length, map, ◌∙◌, ap, arith}
 use Rattle.std.proofs.lemmas.Result.{err_from_is_err_and}
 use Rattle.disk_defs.specs.Disk.{Files, Image}
 use Rattle.disk_defs.proofs.Moments.{nothing_new}
 use Rattle.disk_defs.proofs.Told.{told_at}
-use Rattle.std.specs.List.{AllByRecursion}
 use Rattle.entry_index.specs.declared.placed.PlacedSign.{PlacedSign}
 use Rattle.entry_index.specs.Found.{HaveFound}
 use Rattle.global_dir.specs.Directory.{Mapping}
-use Rattle.journal_defs.specs.Instance.{InstanceRecord, generation, regions}
-use Rattle.journal_defs.specs.Directory.{Pattern, patterns}
+use Rattle.journal_defs.specs.Instance.{generation, regions}
 use Rattle.journal_defs.specs.Sequence.{Placed}
 use Rattle.site_files.specs.declared.error.FilesError.TheVariants.{NotAFile, GenLimit}
-use Rattle.site_files.specs.Loading.{IsDirectory, last_of}
+use Rattle.site_files.specs.Loading.{last_of}
 use Rattle.site_files.specs.Reading.{AreAllDurable, AreUnbegunDurable}
 use Rattle.site_defs.specs.Outside.{HaveJournals, AreUnbegun, AreOutside, HaveBegun}
 use Rattle.site_files.proofs.Places.{instance_place, site_place, directory_place, journals_place, begun_place}
@@ -34,7 +32,7 @@ returns-in_err-plan-clause-place g c =
     rw (p.1, p.2) (λ file offset is.
     let there = handed_on c.in_err-plan.field-0.0 (NotAFile file offset) is in
     site_place o file offset (directory_place o file offset c.in_ok-log.log.records c.in_ok-log.ensures.reads
-    (subst (λ (k : List InstanceRecord). IsDirectory k None) c.as_slice.ensures (c.in_err-plan.ensures.outside file offset there))
+    (c.in_err-plan.ensures.outside file offset there)
     (c.in_err-plan.ensures.place file offset there)))
 
 pub returns-in_err-found-clause-place : goal.returns-in_err-found-clause-place
@@ -44,9 +42,9 @@ returns-in_err-found-clause-place g c =
     let rs = c.in_ok-log.log.records in
     let n = c.in_ok-plan.plan.regions in
     let n2 = c.in_ok-plan.plan.newest in
-    let directory = subst (λ (k : List InstanceRecord). IsDirectory k (Some c.in_ok-plan.plan.directory)) c.as_slice.ensures c.in_ok-plan.ensures.directory in
+    let directory = c.in_ok-plan.ensures.directory in
     let many : n ≡ length (regions rs) = c.in_ok-plan.ensures.regions ∙ ap (λ (d : Mapping). d.regions) directory.2 in
-    let newest : n2 ≡ generation rs = c.in_ok-plan.ensures.newest ∙ ap generation c.as_slice.ensures in
+    let newest : n2 ≡ generation rs = c.in_ok-plan.ensures.newest in
     let p = err_from_is_err_and c.from_residual-in_err-found.result c.from_residual-in_err-found.ensures.1 in
     rw (p.1, p.2) (λ file offset is.
     site_place o file offset (journals_place o file offset rs c.in_ok-log.ensures.reads n n2 many newest
@@ -60,9 +58,9 @@ returns-in_err-see_regions-clause-place g c =
     let rs = c.in_ok-log.log.records in
     let n = c.in_ok-plan.plan.regions in
     let n2 = c.in_ok-plan.plan.newest + 1 in
-    let directory = subst (λ (k : List InstanceRecord). IsDirectory k (Some c.in_ok-plan.plan.directory)) c.as_slice.ensures c.in_ok-plan.ensures.directory in
+    let directory = c.in_ok-plan.ensures.directory in
     let many : n ≡ length (regions rs) = c.in_ok-plan.ensures.regions ∙ ap (λ (d : Mapping). d.regions) directory.2 in
-    let newest : c.in_ok-plan.plan.newest ≡ generation rs = c.in_ok-plan.ensures.newest ∙ ap generation c.as_slice.ensures in
+    let newest : c.in_ok-plan.plan.newest ≡ generation rs = c.in_ok-plan.ensures.newest in
     let drawn : n2 ≡ suc (generation rs) = omega (arith, newest) in
     let p = err_from_is_err_and c.from_residual-in_err-see_regions.result c.from_residual-in_err-see_regions.ensures.1 in
     rw (p.1, p.2) (λ file offset is.
@@ -86,21 +84,21 @@ returns-in_err-plan-clause-outside g c =
     let p = err_from_is_err_and c.from_residual-in_err-plan.result c.from_residual-in_err-plan.ensures.1 in
     rw (p.1, p.2) (λ file offset is.
     no_directory (g.D.Disk.disk c.args.disk.now).content c.in_ok-log.log.records c.in_ok-log.ensures.reads
-    (subst (λ (k : List InstanceRecord). IsDirectory k None) c.as_slice.ensures (c.in_err-plan.ensures.outside file offset (handed_on c.in_err-plan.field-0.0 (NotAFile file offset) is))))
+    (c.in_err-plan.ensures.outside file offset (handed_on c.in_err-plan.field-0.0 (NotAFile file offset) is)))
 
 pub returns-in_err-plan-clause-limit : goal.returns-in_err-plan-clause-limit
 returns-in_err-plan-clause-limit g c =
     let p = err_from_is_err_and c.from_residual-in_err-plan.result c.from_residual-in_err-plan.ensures.1 in
     rw (p.1, p.2) (λ is.
     limit_read (g.D.Disk.disk c.args.disk.now).content c.in_ok-log.log.records c.in_ok-log.ensures.reads
-    (subst (λ (k : List InstanceRecord). 65534 ≤ generation k) c.as_slice.ensures (c.in_err-plan.ensures.limit (handed_on c.in_err-plan.field-0.0 GenLimit is))))
+    (c.in_err-plan.ensures.limit (handed_on c.in_err-plan.field-0.0 GenLimit is)))
 
 pub returns-in_err-plan-clause-limit_told : goal.returns-in_err-plan-clause-limit_told
 returns-in_err-plan-clause-limit_told g c =
     let p = err_from_is_err_and c.from_residual-in_err-plan.result c.from_residual-in_err-plan.ensures.1 in
     rw (p.1, p.2) (λ is.
     limit_told (g.D.Disk.disk c.args.disk.now).content c.in_ok-log.log.records c.in_ok-log.ensures.reads
-    (subst (λ (k : List InstanceRecord). 65534 ≤ generation k) c.as_slice.ensures (c.in_err-plan.ensures.limit (handed_on c.in_err-plan.field-0.0 GenLimit is))))
+    (c.in_err-plan.ensures.limit (handed_on c.in_err-plan.field-0.0 GenLimit is)))
 
 pub returns-in_err-found-clause-causes : goal.returns-in_err-found-clause-causes
 returns-in_err-found-clause-causes g c =
@@ -140,9 +138,9 @@ returns-in_err-found-clause-outside g c =
     let rs = c.in_ok-log.log.records in
     let n = c.in_ok-plan.plan.regions in
     let n2 = c.in_ok-plan.plan.newest in
-    let directory = subst (λ (k : List InstanceRecord). IsDirectory k (Some c.in_ok-plan.plan.directory)) c.as_slice.ensures c.in_ok-plan.ensures.directory in
+    let directory = c.in_ok-plan.ensures.directory in
     let many : n ≡ length (regions rs) = c.in_ok-plan.ensures.regions ∙ ap (λ (d : Mapping). d.regions) directory.2 in
-    let newest : n2 ≡ generation rs = c.in_ok-plan.ensures.newest ∙ ap generation c.as_slice.ensures in
+    let newest : n2 ≡ generation rs = c.in_ok-plan.ensures.newest in
     let None_there = λ (files : Files). (began : ℕ → ℕ) (journal : ℕ → List Placed) → HaveJournals n n2 began journal files → ⊥ in
     let p = err_from_is_err_and c.from_residual-in_err-found.result c.from_residual-in_err-found.ensures.1 in
     rw (p.1, p.2) (λ file offset is.
@@ -156,9 +154,9 @@ returns-in_err-see_regions-clause-outside g c =
     let rs = c.in_ok-log.log.records in
     let n = c.in_ok-plan.plan.regions in
     let n2 = c.in_ok-plan.plan.newest + 1 in
-    let directory = subst (λ (k : List InstanceRecord). IsDirectory k (Some c.in_ok-plan.plan.directory)) c.as_slice.ensures c.in_ok-plan.ensures.directory in
+    let directory = c.in_ok-plan.ensures.directory in
     let many : n ≡ length (regions rs) = c.in_ok-plan.ensures.regions ∙ ap (λ (d : Mapping). d.regions) directory.2 in
-    let newest : c.in_ok-plan.plan.newest ≡ generation rs = c.in_ok-plan.ensures.newest ∙ ap generation c.as_slice.ensures in
+    let newest : c.in_ok-plan.plan.newest ≡ generation rs = c.in_ok-plan.ensures.newest in
     let drawn : n2 ≡ suc (generation rs) = omega (arith, newest) in
     let Begun = λ (files : Files). AreUnbegun n n2 files → ⊥ in
     let p = err_from_is_err_and c.from_residual-in_err-see_regions.result c.from_residual-in_err-see_regions.ensures.1 in
@@ -168,14 +166,14 @@ returns-in_err-see_regions-clause-outside g c =
     (c.in_err-see_regions.ensures.outside file offset (handed_on c.in_err-see_regions.field-0.0 (NotAFile file offset) is))))
 
 pub returns-clause-directory : goal.returns-clause-directory
-returns-clause-directory g c = rw (c.with_found.ensures.log, c.with_found.ensures.directory) (subst (λ (k : List InstanceRecord). IsDirectory k (Some c.in_ok-plan.plan.directory)) c.as_slice.ensures c.in_ok-plan.ensures.directory)
+returns-clause-directory g c = rw (c.with_found.ensures.log, c.with_found.ensures.directory) c.in_ok-plan.ensures.directory
 
 pub returns-clause-form : goal.returns-clause-form
 returns-clause-form g c =
     let rs = c.in_ok-log.log.records in
-    let directory = subst (λ (k : List InstanceRecord). IsDirectory k (Some c.in_ok-plan.plan.directory)) c.as_slice.ensures c.in_ok-plan.ensures.directory in
-    let fits = subst (λ (k : List InstanceRecord). AllByRecursion (λ (p : Pattern). p.region < c.in_ok-plan.plan.directory.regions) (patterns k)) c.as_slice.ensures c.in_ok-plan.ensures.mapped in
-    let newest : c.in_ok-plan.plan.newest ≡ generation rs = c.in_ok-plan.ensures.newest ∙ ap generation c.as_slice.ensures in
+    let directory = c.in_ok-plan.ensures.directory in
+    let fits = c.in_ok-plan.ensures.mapped in
+    let newest : c.in_ok-plan.plan.newest ≡ generation rs = c.in_ok-plan.ensures.newest in
     let low : c.in_ok-plan.plan.newest < 65534 = c.in_ok-plan.ensures.low in
     rw (c.with_found.ensures.log, c.with_found.ensures.last_began)
     (may_be_opened rs c.in_ok-plan.plan.directory (last_of c.in_ok-found.found.last_began.items) c.in_ok-plan.plan.newest c.in_ok-log.ensures.order c.in_ok-log.ensures.form directory fits newest low c.in_ok-found.ensures.began)
@@ -193,9 +191,9 @@ returns-clause-read g c =
     let got = c.in_ok-found.ensures in
     let found = c.in_ok-found.found in
     let signs = map (λ (j : Vec PlacedSign Global). j.items) found.signs.items in
-    let directory = subst (λ (k : List InstanceRecord). IsDirectory k (Some c.in_ok-plan.plan.directory)) c.as_slice.ensures c.in_ok-plan.ensures.directory in
+    let directory = c.in_ok-plan.ensures.directory in
     let many : n ≡ length (regions rs) = c.in_ok-plan.ensures.regions ∙ ap (λ (d : Mapping). d.regions) directory.2 in
-    let newest : g1 ≡ generation rs = c.in_ok-plan.ensures.newest ∙ ap generation c.as_slice.ensures in
+    let newest : g1 ≡ generation rs = c.in_ok-plan.ensures.newest in
     let drawn : g1 + 1 ≡ suc (generation rs) = omega (arith, newest) in
     let first = c.in_ok-log.ensures.content in
     let second = got.content ∙ first in
@@ -219,41 +217,41 @@ returns-in_err-plan-clause-late g c =
     let p = err_from_is_err_and c.from_residual-in_err-plan.result c.from_residual-in_err-plan.ensures.1 in
     rw (p.1, p.2) (λ file offset is.
     no_late_directory (g.D.Disk.disk c.args.disk.now).content c.in_ok-log.log.records c.in_ok-log.ensures.reads
-    (subst (λ (k : List InstanceRecord). IsDirectory k None) c.as_slice.ensures (c.in_err-plan.ensures.outside file offset (handed_on c.in_err-plan.field-0.0 (NotAFile file offset) is))))
+    (c.in_err-plan.ensures.outside file offset (handed_on c.in_err-plan.field-0.0 (NotAFile file offset) is)))
 
 pub returns-in_err-found-clause-late : goal.returns-in_err-found-clause-late
 returns-in_err-found-clause-late g c =
-    let newest : c.in_ok-plan.plan.newest ≡ generation c.in_ok-log.log.records = c.in_ok-plan.ensures.newest ∙ ap generation c.as_slice.ensures in
+    let newest : c.in_ok-plan.plan.newest ≡ generation c.in_ok-log.log.records = c.in_ok-plan.ensures.newest in
     λ file offset is. not_late (g.D.Disk.disk c.args.disk.now).content c.in_ok-log.log.records c.in_ok-log.ensures.reads c.in_ok-plan.plan.newest newest c.in_ok-plan.ensures.low
 
 pub returns-in_err-see_regions-clause-late : goal.returns-in_err-see_regions-clause-late
 returns-in_err-see_regions-clause-late g c =
-    let newest : c.in_ok-plan.plan.newest ≡ generation c.in_ok-log.log.records = c.in_ok-plan.ensures.newest ∙ ap generation c.as_slice.ensures in
+    let newest : c.in_ok-plan.plan.newest ≡ generation c.in_ok-log.log.records = c.in_ok-plan.ensures.newest in
     λ file offset is. not_late (g.D.Disk.disk c.args.disk.now).content c.in_ok-log.log.records c.in_ok-log.ensures.reads c.in_ok-plan.plan.newest newest c.in_ok-plan.ensures.low
 
 pub returns-clause-counted : goal.returns-clause-counted
 returns-clause-counted g c =
     let rs = c.in_ok-log.log.records in
-    let directory = subst (λ (k : List InstanceRecord). IsDirectory k (Some c.in_ok-plan.plan.directory)) c.as_slice.ensures c.in_ok-plan.ensures.directory in
+    let directory = c.in_ok-plan.ensures.directory in
     let many : c.in_ok-plan.plan.regions ≡ length (regions rs) = c.in_ok-plan.ensures.regions ∙ ap (λ (d : Mapping). d.regions) directory.2 in
     rw (c.with_found.ensures.log, c.with_found.ensures.last_began) (c.in_ok-found.ensures.many_last ∙ many)
 
 pub returns-clause-signs : goal.returns-clause-signs
 returns-clause-signs g c =
     let rs = c.in_ok-log.log.records in
-    let directory = subst (λ (k : List InstanceRecord). IsDirectory k (Some c.in_ok-plan.plan.directory)) c.as_slice.ensures c.in_ok-plan.ensures.directory in
+    let directory = c.in_ok-plan.ensures.directory in
     let many : c.in_ok-plan.plan.regions ≡ length (regions rs) = c.in_ok-plan.ensures.regions ∙ ap (λ (d : Mapping). d.regions) directory.2 in
     rw (c.with_found.ensures.log, c.with_found.ensures.signs) (c.in_ok-found.ensures.many ∙ many)
 
 pub returns-clause-rows : goal.returns-clause-rows
 returns-clause-rows g c =
     let rs = c.in_ok-log.log.records in
-    let directory = subst (λ (k : List InstanceRecord). IsDirectory k (Some c.in_ok-plan.plan.directory)) c.as_slice.ensures c.in_ok-plan.ensures.directory in
+    let directory = c.in_ok-plan.ensures.directory in
     let many : c.in_ok-plan.plan.regions ≡ length (regions rs) = c.in_ok-plan.ensures.regions ∙ ap (λ (d : Mapping). d.regions) directory.2 in
     rw (c.with_found.ensures.log, c.with_found.ensures.entries) (whole_rows c.in_ok-found.found.entries c.in_ok-plan.plan.regions (length (regions rs)) many c.in_ok-found.ensures.rows)
 
 pub returns-clause-low : goal.returns-clause-low
 returns-clause-low g c =
-    let newest : c.in_ok-plan.plan.newest ≡ generation c.in_ok-log.log.records = c.in_ok-plan.ensures.newest ∙ ap generation c.as_slice.ensures in
+    let newest : c.in_ok-plan.plan.newest ≡ generation c.in_ok-log.log.records = c.in_ok-plan.ensures.newest in
     let low = c.in_ok-plan.ensures.low in
     rw c.with_found.ensures.log (omega (arith, newest, low))

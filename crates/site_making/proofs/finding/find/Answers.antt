@@ -1,15 +1,12 @@
-use Rattle.std.proofs.Common.{◌≡◌, ◌⊎◌, ◌<◌, inl, List, [], map, length, Option, Some, None, Err, ap, sym, subst}
+use Rattle.std.proofs.Common.{◌≡◌, ◌⊎◌, inl, List, [], Option, Some, None, Err, ap, sym, subst}
 use Rattle.std.specs.Prelude.{IfSome}
-use Rattle.std.proofs.lemmas.List.{length-map}
 use Rattle.std.proofs.lemmas.Result.{err_from_is_err_and}
 use Rattle.disk_defs.specs.Disk.{Files, View, Image, IsDurable}
 use Rattle.disk_defs.specs.Gates.{records}
 use Rattle.disk_defs.proofs.Told.{weaker_told, told_at}
-use Rattle.instance_file.specs.Values.{record_value}
 use Rattle.journal_defs.specs.Numbers.{INSTANCE}
 use Rattle.journal_defs.specs.Instance.{InstanceRecord}
 use Rattle.journal_defs.specs.Stands.{IsInstance}
-use Rattle.site_files.specs.Loading.{IsDirectory}
 use Rattle.site_defs.specs.Contents.{Contents}
 use Rattle.site_defs.specs.Stands.{Stands}
 use Rattle.site_store.specs.Finding.{IsLaidOut, IsFound}
@@ -36,10 +33,6 @@ returns-in_err-log-clause-place g c =
     weaker_told o (λ files. IsNoInstance files file offset) (λ files. IsNoInstance files file offset ⊎ HasNoDirectory files file offset)
     (c.in_err-log.ensures.place file offset (file_was c.in_err-log.field-0.0 file offset is)) (λ files out. inl out))
 
--- what was laid out, of the records themselves
-laid_so : (rs : List InstanceRecord) (own : List InstanceRecord) (found : Option Layout) → own ≡ rs → IsLaidOut own found → IsLaidOut rs found
-laid_so rs own found e laid = subst (λ (l : List InstanceRecord). IsLaidOut l found) e laid
-
 pub returns-in_err-layout-clause-outside : goal.returns-in_err-layout-clause-outside
 returns-in_err-layout-clause-outside g c =
     let o = (g.D.Disk.disk c.args.disk.now).content in
@@ -48,11 +41,8 @@ returns-in_err-layout-clause-outside g c =
     rw (p.1, p.2) (λ file offset is.
     let same : c.in_err-layout.field-0.0 ≡ NotAFile file offset = cc is in
     let given = c.in_err-layout.ensures.outside file offset (ap Err same) in
-    let some : 0 < length (map record_value c.as_slice.result.now) = subst (λ n. 0 < n) (sym (length-map c.as_slice.result.now record_value)) given.0 in
-    let there : 0 < length rs = subst (λ (l : List InstanceRecord). 0 < length l) c.as_slice.ensures some in
-    let none : IsDirectory rs None = subst (λ (l : List InstanceRecord). IsDirectory l None) c.as_slice.ensures given.1 in
     weaker_told o (λ files. IsInstance (files INSTANCE) rs) (λ files. (x : Contents) → Stands files x → ⊥) c.in_ok-log.ensures.reads
-    (λ files own x stands. not_laid files x rs own there none stands))
+    (λ files own x stands. not_laid files x rs own given.0 given.1 stands))
 
 pub returns-in_err-log-clause-written : goal.returns-in_err-log-clause-written
 returns-in_err-log-clause-written g c =
@@ -68,14 +58,13 @@ returns-in_err-layout-clause-written g c =
     rw (p.1, p.2) (λ file offset is.
     let same : c.in_err-layout.field-0.0 ≡ NotAFile file offset = cc is in
     let given = c.in_err-layout.ensures.outside file offset (ap Err same) in
-    let some : 0 < length (map record_value c.as_slice.result.now) = subst (λ n. 0 < n) (sym (length-map c.as_slice.result.now record_value)) given.0 in
-    some_written o rs (subst (λ (l : List InstanceRecord). 0 < length l) c.as_slice.ensures some) c.in_ok-log.ensures.reads)
+    some_written o rs given.0 c.in_ok-log.ensures.reads)
 
 pub returns-in_default-clause-found : goal.returns-in_default-clause-found
 returns-in_default-clause-found g c =
     let o = (g.D.Disk.disk c.args.disk.now).content in
     let rs = c.in_ok-log.log.records in
-    let own : IsLaidOut rs None = laid_so rs (map record_value c.as_slice.result.now) None c.as_slice.ensures (subst (λ (f : Option Layout). IsLaidOut (map record_value c.as_slice.result.now) f) c.in_default.is c.in_ok-layout.ensures.layout) in
+    let own : IsLaidOut rs None = subst (λ (f : Option Layout). IsLaidOut rs f) c.in_default.is c.in_ok-layout.ensures.layout in
     weaker_told o (λ files. IsInstance (files INSTANCE) rs) (λ files. (x : Contents) → Stands files x → IsFound x None) c.in_ok-log.ensures.reads
     (λ files is x stands. found_by files x rs None is own stands)
 
@@ -84,29 +73,29 @@ returns-clause-found g c =
     let o = (g.D.Disk.disk c.args.disk.now).content in
     let rs = c.in_ok-log.log.records in
     let found = c.in-Some.layout in
-    let own : IsLaidOut rs (Some found) = laid_so rs (map record_value c.as_slice.result.now) (Some found) c.as_slice.ensures (subst (λ (f : Option Layout). IsLaidOut (map record_value c.as_slice.result.now) f) c.in-Some.is c.in_ok-layout.ensures.layout) in
+    let own : IsLaidOut rs (Some found) = subst (λ (f : Option Layout). IsLaidOut rs f) c.in-Some.is c.in_ok-layout.ensures.layout in
     weaker_told o (λ files. IsInstance (files INSTANCE) rs) (λ files. (x : Contents) → Stands files x → IsFound x (Some found)) c.in_ok-log.ensures.reads
     (λ files is x stands. found_by files x rs (Some found) is own stands)
 
 pub returns-in_default-clause-exact : goal.returns-in_default-clause-exact
 returns-in_default-clause-exact g c =
     exact_by (g.D.Disk.disk c.args.disk.now).content c.in_ok-log.log.records None c.in_ok-log.ensures.reads
-    (laid_so c.in_ok-log.log.records (map record_value c.as_slice.result.now) None c.as_slice.ensures (subst (λ (f : Option Layout). IsLaidOut (map record_value c.as_slice.result.now) f) c.in_default.is c.in_ok-layout.ensures.layout))
+    (subst (λ (f : Option Layout). IsLaidOut c.in_ok-log.log.records f) c.in_default.is c.in_ok-layout.ensures.layout)
 
 pub returns-clause-exact : goal.returns-clause-exact
 returns-clause-exact g c =
     exact_by (g.D.Disk.disk c.args.disk.now).content c.in_ok-log.log.records (Some c.in-Some.layout) c.in_ok-log.ensures.reads
-    (laid_so c.in_ok-log.log.records (map record_value c.as_slice.result.now) (Some c.in-Some.layout) c.as_slice.ensures (subst (λ (f : Option Layout). IsLaidOut (map record_value c.as_slice.result.now) f) c.in-Some.is c.in_ok-layout.ensures.layout))
+    (subst (λ (f : Option Layout). IsLaidOut c.in_ok-log.log.records f) c.in-Some.is c.in_ok-layout.ensures.layout)
 
 pub returns-in_default-clause-holds : goal.returns-in_default-clause-holds
 returns-in_default-clause-holds g c =
     held_by (g.D.Disk.disk c.args.disk.now).content c.in_ok-log.log.records None c.in_ok-log.ensures.reads
-    (laid_so c.in_ok-log.log.records (map record_value c.as_slice.result.now) None c.as_slice.ensures (subst (λ (f : Option Layout). IsLaidOut (map record_value c.as_slice.result.now) f) c.in_default.is c.in_ok-layout.ensures.layout))
+    (subst (λ (f : Option Layout). IsLaidOut c.in_ok-log.log.records f) c.in_default.is c.in_ok-layout.ensures.layout)
 
 pub returns-clause-holds : goal.returns-clause-holds
 returns-clause-holds g c =
     held_by (g.D.Disk.disk c.args.disk.now).content c.in_ok-log.log.records (Some c.in-Some.layout) c.in_ok-log.ensures.reads
-    (laid_so c.in_ok-log.log.records (map record_value c.as_slice.result.now) (Some c.in-Some.layout) c.as_slice.ensures (subst (λ (f : Option Layout). IsLaidOut (map record_value c.as_slice.result.now) f) c.in-Some.is c.in_ok-layout.ensures.layout))
+    (subst (λ (f : Option Layout). IsLaidOut c.in_ok-log.log.records f) c.in-Some.is c.in_ok-layout.ensures.layout)
 
 pub returns-clause-told : goal.returns-clause-told
 returns-clause-told g c =
@@ -116,7 +105,7 @@ returns-clause-told g c =
     let rs = c.in_ok-log.log.records in
     let found = c.in-Some.layout in
     let same : v.content ≡ u.content = c.in_ok-log.ensures.content in
-    let own : IsLaidOut rs (Some found) = laid_so rs (map record_value c.as_slice.result.now) (Some found) c.as_slice.ensures (subst (λ (f : Option Layout). IsLaidOut (map record_value c.as_slice.result.now) f) c.in-Some.is c.in_ok-layout.ensures.layout) in
+    let own : IsLaidOut rs (Some found) = subst (λ (f : Option Layout). IsLaidOut rs f) c.in-Some.is c.in_ok-layout.ensures.layout in
     record {
       told = told_at v.content u.content (λ files. IsInstance (files INSTANCE) rs) (sym same) c.in_ok-log.ensures.reads;
       durable = told_at v.content u.content (λ files. IsDurable v INSTANCE (files INSTANCE)) (sym same) c.in_ok-log.ensures.durable;
@@ -138,7 +127,7 @@ pub returns-in_default-clause-empty : goal.returns-in_default-clause-empty
 returns-in_default-clause-empty g c is =
     let view = g.D.Disk.disk in
     let rs = c.in_ok-log.log.records in
-    let none : rs ≡ [] = laid_so rs (map record_value c.as_slice.result.now) None c.as_slice.ensures (subst (λ (f : Option Layout). IsLaidOut (map record_value c.as_slice.result.now) f) c.in_default.is c.in_ok-layout.ensures.layout) in
+    let none : rs ≡ [] = subst (λ (f : Option Layout). IsLaidOut rs f) c.in_default.is c.in_ok-layout.ensures.layout in
     told_at (view c.read_instance.new.disk).content (view c.args.disk.now).content (λ files. records (files INSTANCE) ≡ Some []) (sym c.in_ok-log.ensures.content)
     (weaker_told (view c.args.disk.now).content (λ files. IsInstance (files INSTANCE) rs) (λ files. records (files INSTANCE) ≡ Some []) c.in_ok-log.ensures.reads
     (λ files is. no_bodies (files INSTANCE) (subst (λ (l : List InstanceRecord). IsInstance (files INSTANCE) l) none is)))

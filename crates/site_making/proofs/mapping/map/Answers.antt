@@ -1,10 +1,10 @@
-use Rattle.std.proofs.Common.{◌≡◌, ◌⊎◌, ◌<◌, inl, inr, ◌++◌, ◌∷◌, [], List, length, IfSome, sym, subst}
+use Rattle.std.proofs.Common.{◌≡◌, ◌⊎◌, ◌<◌, inl, inr, ◌++◌, ◌∷◌, [], length, IfSome}
 use Rattle.std.proofs.lemmas.Result.{IfOk-weaker}
 use Rattle.std.proofs.lemmas.Result.{err_from_is_err_and}
 use Rattle.disk_defs.specs.Disk.{Files, Image}
 use Rattle.disk_defs.proofs.Told.{weaker_told}
 use Rattle.journal_defs.specs.Numbers.{INSTANCE}
-use Rattle.journal_defs.specs.Instance.{InstanceRecord, generation, regions, pattern_record}
+use Rattle.journal_defs.specs.Instance.{generation, regions, pattern_record}
 use Rattle.journal_defs.specs.Stands.{IsInstance}
 use Rattle.site_defs.specs.Contents.{Contents}
 use Rattle.site_defs.specs.Opening.{with_pattern}
@@ -45,8 +45,7 @@ returns-then-not-may_map-clause-place g c file offset is =
     let rs = c.in_ok-log.log.records in
     let region = c.args.region in
     let none : (region < length (regions rs)) × (generation rs ≡ 0) → ⊥ = λ both.
-    let own = subst (λ (l : List InstanceRecord). (region < length (regions l)) × (generation l ≡ 0)) (sym c.as_slice.ensures) both in
-    let yes = c.may_map.ensures.1 own in
+    let yes = c.may_map.ensures.1 both in
     cc (yes, c.if-not-may_map.true) in
     weaker_told o (λ files. IsInstance (files INSTANCE) rs) (λ files. IsNoInstance files file offset ⊎ TakesNoPattern files region file offset) c.in_ok-log.ensures.reads
     (λ files own. inr (rs, own, none, cc is, cc is))
@@ -60,8 +59,7 @@ returns-then-not-may_map-clause-outside g c file offset is =
     let region = c.args.region in
     let text = c.args.pattern.now in
     no_region u.content rs region c.in_ok-log.ensures.reads c.requires.site (λ both.
-    let own = subst (λ (l : List InstanceRecord). (region < length (regions l)) × (generation l ≡ 0)) (sym c.as_slice.ensures) both in
-    let yes = c.may_map.ensures.1 own in
+    let yes = c.may_map.ensures.1 both in
     cc (yes, c.if-not-may_map.true))
 
 pub returns-clause-reads : goal.returns-clause-reads
@@ -74,8 +72,8 @@ returns-clause-reads g c =
     let text = c.args.pattern.now in
     let w = view c.append_pattern.new.disk in
     let both = c.may_map.ensures.0 c.if-not-may_map.false in
-    let inside : region < length (regions rs) = subst (λ (l : List InstanceRecord). region < length (regions l)) c.as_slice.ensures both.0 in
-    let undrawn : generation rs ≡ 0 = subst (λ (l : List InstanceRecord). generation l ≡ 0) c.as_slice.ensures both.1 in
+    let inside : region < length (regions rs) = both.0 in
+    let undrawn : generation rs ≡ 0 = both.1 in
     IfOk-weaker c.append_pattern.result (λ _. IfSome v.content (λ _. IfSome w.content (λ now. IsInstance (now INSTANCE) (rs ++ pattern_record region text ∷ []))))
     (λ _. IfSome u.content (λ files. (x : Contents) → IsSite files x → IfSome w.content (λ now. IsSite now (with_pattern region text x))))
     (λ done h. map_reads u v w rs region text inside undrawn (g.met.D.Disk.lawful c.read_instance.new.disk) (g.met.D.Disk.lawful c.append_pattern.new.disk) c.in_ok-log.ensures.any_moment c.in_ok-log.ensures.content c.in_ok-log.ensures.reads c.in_ok-log.ensures.durable c.append_pattern.ensures.frame h) c.append_pattern.ensures.reads
@@ -90,8 +88,8 @@ returns-clause-images g c =
     let text = c.args.pattern.now in
     let w = view c.append_pattern.new.disk in
     let both = c.may_map.ensures.0 c.if-not-may_map.false in
-    let inside : region < length (regions rs) = subst (λ (l : List InstanceRecord). region < length (regions l)) c.as_slice.ensures both.0 in
-    let undrawn : generation rs ≡ 0 = subst (λ (l : List InstanceRecord). generation l ≡ 0) c.as_slice.ensures both.1 in
+    let inside : region < length (regions rs) = both.0 in
+    let undrawn : generation rs ≡ 0 = both.1 in
     IfOk-weaker c.append_pattern.result (λ _. IfSome v.content (λ _. (f : Files) → Image w f → IsInstance (f INSTANCE) (rs ++ pattern_record region text ∷ [])))
     (λ _. IfSome u.content (λ files. (x : Contents) → IsSite files x → EachStands u → (f : Files) → Image w f → IsSite f (with_pattern region text x)))
     (λ done h. map_images u v w rs region text inside undrawn (g.met.D.Disk.lawful c.read_instance.new.disk) (g.met.D.Disk.lawful c.append_pattern.new.disk) c.in_ok-log.ensures.any_moment c.in_ok-log.ensures.content c.in_ok-log.ensures.reads c.in_ok-log.ensures.durable c.append_pattern.ensures.frame h) c.append_pattern.ensures.images
@@ -106,8 +104,8 @@ returns-clause-any_moment g c =
     let text = c.args.pattern.now in
     let w = view c.append_pattern.new.disk in
     let both = c.may_map.ensures.0 c.if-not-may_map.false in
-    let inside : region < length (regions rs) = subst (λ (l : List InstanceRecord). region < length (regions l)) c.as_slice.ensures both.0 in
-    let undrawn : generation rs ≡ 0 = subst (λ (l : List InstanceRecord). generation l ≡ 0) c.as_slice.ensures both.1 in
+    let inside : region < length (regions rs) = both.0 in
+    let undrawn : generation rs ≡ 0 = both.1 in
     map_moments u v w rs region text inside undrawn (g.met.D.Disk.lawful c.read_instance.new.disk) (g.met.D.Disk.lawful c.append_pattern.new.disk) c.in_ok-log.ensures.any_moment c.in_ok-log.ensures.content c.in_ok-log.ensures.reads c.in_ok-log.ensures.durable c.append_pattern.ensures.frame c.append_pattern.ensures.any_moment
 
 pub returns-clause-stands : goal.returns-clause-stands
@@ -120,6 +118,6 @@ returns-clause-stands g c =
     let text = c.args.pattern.now in
     let w = view c.append_pattern.new.disk in
     let both = c.may_map.ensures.0 c.if-not-may_map.false in
-    let inside : region < length (regions rs) = subst (λ (l : List InstanceRecord). region < length (regions l)) c.as_slice.ensures both.0 in
-    let undrawn : generation rs ≡ 0 = subst (λ (l : List InstanceRecord). generation l ≡ 0) c.as_slice.ensures both.1 in
+    let inside : region < length (regions rs) = both.0 in
+    let undrawn : generation rs ≡ 0 = both.1 in
     map_stands u v w rs region text inside undrawn (g.met.D.Disk.lawful c.read_instance.new.disk) (g.met.D.Disk.lawful c.append_pattern.new.disk) c.in_ok-log.ensures.any_moment c.in_ok-log.ensures.content c.in_ok-log.ensures.reads c.in_ok-log.ensures.durable c.append_pattern.ensures.frame c.append_pattern.ensures.any_moment

@@ -1,8 +1,8 @@
 use Rattle.std.proofs.Common.{◌++◌, ℕ, List, sym, ◌∙◌, ap, subst, length, map}
 use Rattle.std.specs.Prelude.{OnOk, OnErr, codes}
+use Rattle.gvn_model.specs.Regions.{named_region}
 use Rattle.command_defs.specs.Commands.{Create}
 use Rattle.world_defs.specs.Answers.{line}
-use Rattle.repl_script.specs.Commands.{region_value}
 use Rattle.site_runner.specs.declared.slot.Slot.{Slot}
 use Rattle.site_runner.specs.declared.slot.Slot.TheVariants.{Free}
 use Rattle.site_runner.specs.Executes.{Executes, IsCutOff}
@@ -19,7 +19,7 @@ returns-in-None-clause-ready g c = ok_so c.refuse.result _ (subst (λ (x : List 
 pub returns-in-None-clause-done : goal.returns-in-None-clause-done
 returns-in-None-clause-done g c =
     let xs = c.args.slots.now.items in
-    let regions = map region_value c.args.regions.now in
+    let regions = map named_region c.args.regions.now in
     subst (λ (x : List (Slot g.row.D.Denot)). OnOk c.refuse.result (Executes g.D.Disk.disk (Create c.args.name regions) xs x c.args.text.now c.refuse.new.text)) (sym c.in-None.ensures.none)
     (on_refused c.refuse.result _ _ c.refuse.ensures (λ t.
     no_disk_left g.D.Disk.disk c.args.name regions xs c.args.text.now c.refuse.new.text c.requires.none (sym c.in-None.ensures.place) (t ∙ ap (λ (x : List ℕ). c.args.text.now ++ line x (codes "NODISK")) c.as_slice.ensures)))
@@ -27,7 +27,7 @@ returns-in-None-clause-done g c =
 pub returns-in-None-clause-cut_off : goal.returns-in-None-clause-cut_off
 returns-in-None-clause-cut_off g c =
     let xs = c.args.slots.now.items in
-    let regions = map region_value c.args.regions.now in
+    let regions = map named_region c.args.regions.now in
     subst (λ (x : List (Slot g.row.D.Denot)). OnErr c.refuse.result (IsCutOff g.D.Disk.disk (Create c.args.name regions) xs x)) (sym c.in-None.ensures.none) (err_so c.refuse.result _ (create_not_begun g.D.Disk.disk c.args.name regions xs))
 
 pub put_back-requires-clause-inside : goal.put_back-requires-clause-inside
@@ -44,7 +44,7 @@ returns-in-Some-clause-ready g c =
 pub returns-in-Some-clause-done : goal.returns-in-Some-clause-done
 returns-in-Some-clause-done g c =
     let xs = c.args.slots.now.items in
-    let regions = map region_value c.args.regions.now in
+    let regions = map named_region c.args.regions.now in
     let taken = c.in-Some.ensures.taken in
     let left = c.create_at-slot.result in
     let back = put_back_is xs c.take_free.new.slots.items c.put_back.new.slots.items c.in-Some.i (Free c.in-Some.disk) left.0 taken.0 taken.1 c.put_back.ensures in
@@ -54,7 +54,7 @@ returns-in-Some-clause-done g c =
 pub returns-in-Some-clause-cut_off : goal.returns-in-Some-clause-cut_off
 returns-in-Some-clause-cut_off g c =
     let xs = c.args.slots.now.items in
-    let regions = map region_value c.args.regions.now in
+    let regions = map named_region c.args.regions.now in
     let taken = c.in-Some.ensures.taken in
     let left = c.create_at-slot.result in
     let back = put_back_is xs c.take_free.new.slots.items c.put_back.new.slots.items c.in-Some.i (Free c.in-Some.disk) left.0 taken.0 taken.1 c.put_back.ensures in

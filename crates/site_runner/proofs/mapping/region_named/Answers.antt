@@ -1,6 +1,6 @@
 use Rattle.std.proofs.Common.{◌≡◌, ◌<◌, ◌≤◌, min, ℕ, Bool, List, length, take, get_or, sym, ◌∙◌, ap, subst, arith, add-one, nat_eq}
 use Rattle.std.specs.Cmp.Lexicographic.{pointwise}
-use Rattle.journal_defs.specs.Instance.{NamedMode}
+use Rattle.global_defs.specs.Region.{Region}
 use Rattle.site_defs.specs.Lists.{first_where}
 use Rattle.site_defs.specs.Contents.{same_name}
 use Rattle.site_store.specs.declared.layout.RegionSpec.{RegionSpec}
@@ -22,7 +22,7 @@ returns-then-eq-clause-number c =
     let at = ap (λ (ys : List RegionSpec). get_or ys c.loop-number.number c.region-item.result) same in
     let k : c.loop-number.number < length xs = subst (λ (ys : List RegionSpec). c.loop-number.number < length ys) same c.loop-number-test.true in
     let passes : t c.region-item.result ≡ _ = sym (c.eq.ensures ∙ ap (λ (x : List ℕ). pointwise nat_eq x name) c.as_slice.ensures) ∙ c.if-eq.true in
-    sym (first_map region_value (λ (r : NamedMode). same_name r.name name) (take most items) ∙ ap (first_where t) (sym all)
+    sym (first_map region_value (λ (r : Region). same_name r.name name) (take most items) ∙ ap (first_where t) (sym all)
     ∙ found t xs c.loop-number.number c.region-item.result c.loop-number.invariant k (ap t (sym (c.region-item.is ∙ at)) ∙ passes))
 
 pub loop-number-preserved : goal.loop-number-preserved
@@ -47,5 +47,5 @@ returns-clause-number c =
     let all : take c.min-count.result items ≡ take most items = ap (λ (n : ℕ). take n items) count ∙ take_least items most in
     let xs = take c.min-count.result items in
     let past : length xs ≤ c.loop-number.number = subst (λ (ys : List RegionSpec). length (take c.min-count.result ys) ≤ c.loop-number.number) c.deref.ensures.value c.loop-number-test.false in
-    sym (first_map region_value (λ (r : NamedMode). same_name r.name name) (take most items) ∙ ap (first_where t) (sym all)
+    sym (first_map region_value (λ (r : Region). same_name r.name name) (take most items) ∙ ap (first_where t) (sym all)
     ∙ ap (first_where t) (sym (all_taken xs c.loop-number.number past)) ∙ c.loop-number.invariant)

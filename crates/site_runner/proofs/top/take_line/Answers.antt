@@ -1,5 +1,5 @@
 use Rattle.std.proofs.Common.{◌+◌, ◌∙◌, ap, sym, subst, arith, Err}
-use Rattle.repl_io.specs.Fault.{Rose}
+use Rattle.global_defs.specs.Counts.{Rose}
 use Rattle.repl_script.specs.Commands.{command_value}
 use Rattle.site_runner.specs.declared.status.Status.{Status}
 use Rattle.site_runner.specs.Going.{Halts}

@@ -1,7 +1,7 @@
 use Rattle.std.proofs.Common.{◌≡◌, ◌≤◌, ℕ, fold, map, take}
 use Rattle.std.specs.FinMap.{len}
+use Rattle.global_defs.specs.declared.limits.TheConstants.{MOST_NODES}
 use Rattle.global_defs.specs.Entry.{apply}
-use Rattle.global_defs.specs.Evaluation.{MOST_NODES}
 use Rattle.gvn_key.specs.Terms.{update_value}
 use Rattle.region_store.specs.Joined.{joined}
 use Rattle.site_store.proofs.fitting.check_each.Given as goal

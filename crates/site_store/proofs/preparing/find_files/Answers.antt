@@ -1,5 +1,6 @@
 use Rattle.std.proofs.Common.{◌≡◌, ℕ, ◌<◌, ◌^◌, length, map, sym, ◌∙◌, ap, subst, arith, IfSome}
 use Rattle.std.proofs.lemmas.Result.{err_from_is_err_and}
+use Rattle.global_defs.specs.declared.limits.TheConstants.{NUMBERS_END}
 use Rattle.disk_defs.specs.Disk.{Image}
 use Rattle.disk_defs.proofs.Moments.{nothing_new, read_only}
 use Rattle.disk_defs.proofs.Told.{told_at}
@@ -78,7 +79,7 @@ returns-clause-has g c =
       signs = read.signs;
       each_place = ap (λ (i : EntryIndex). i.regions) made.entries ∙ read.rows.0;
       whole = subst IsWhole (sym made.entries) (whole_rows entries read.rows.1 (let some = form.some_region in let wide = read.rows.0 in omega (arith, wide, some)) read.rows.2);
-      few = subst (λ (i : EntryIndex). entry_count i < 2 ^ 40) (sym made.entries) made.few;
+      few = subst (λ (i : EntryIndex). entry_count i < NUMBERS_END) (sym made.entries) made.few;
     }
 
 pub returns-clause-found : goal.returns-clause-found
@@ -104,6 +105,6 @@ returns-clause-found g c =
     (subst (λ (i : EntryIndex). IfSome u.content (IsRead v0 read i)) (sym made.entries) c.in_ok-found.ensures.read)
     (subst (λ (i : EntryIndex). IfSome v2.content (λ files. (x : Records) (seq : Sequence) → AreFound files rs read.lowest (map (λ s. s.items) read.signs.items) i x seq → c.in_ok-remembered.remembered.broken ≡ broken_text (site_name x.instance) (length seq) (broken x (length seq)))) (sym made.entries) made.broken)
     (texts_still u.content v1 v2 (generation rs) lawful2 c.sync_databases.ensures.any_moment
-    (told_at u.content v0.content (AreTextsDurable v1 (generation rs)) same1 (subst (λ (k : ℕ). IfSome v0.content (AreTextsDurable v1 k)) (c.generation_in.ensures ∙ ap generation c.as_slice.ensures) c.in_ok-sync_texts.ensures.durable)))
+    (told_at u.content v0.content (AreTextsDurable v1 (generation rs)) same1 (subst (λ (k : ℕ). IfSome v0.content (AreTextsDurable v1 k)) (c.generation.ensures) c.in_ok-sync_texts.ensures.durable)))
     (told_at u.content v1.content (AreDatabasesDurable v2 (length (regions rs))) same2
     (subst (λ (k : ℕ). IfSome v1.content (AreDatabasesDurable v2 k)) (c.from.ensures ∙ c.regions.ensures.count ∙ ap (λ d. d.regions) dir.2) c.in_ok-sync_databases.ensures.durable))

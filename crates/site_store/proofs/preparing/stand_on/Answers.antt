@@ -1,7 +1,3 @@
-use Rattle.std.proofs.Common.{List, ◌∷◌, [], ◌++◌, subst}
-use Rattle.journal_defs.specs.Instance.{InstanceRecord}
-use Rattle.site_files.specs.Loading.{next_cut}
-use Rattle.site_store.specs.Finding.{HasLayout}
 use Rattle.site_store.proofs.preparing.stand_on.Goals as goal
 
 pub returns-clause-found_as : goal.returns-clause-found_as
@@ -10,5 +6,5 @@ returns-clause-found_as c = record {
   last_began = λ i. c.args.found.read.last_began;
   entries = λ i. c.args.found.entries;
   broken = λ i. c.args.found.broken;
-  layout = λ n. subst (λ (l : List InstanceRecord). HasLayout (l ++ next_cut l n ∷ []) c.in_ok-layout.layout) c.as_slice.ensures (c.in_ok-layout.ensures n);
+  layout = c.in_ok-layout.ensures;
 }

@@ -4,8 +4,8 @@ use Rattle.std.proofs.lemmas.Option.{get_or_from_slice_get, slice_get_within}
 use Rattle.std.proofs.Math.ListN.{get_or-map}
 use Rattle.global_defs.specs.Entry as defs
 use Rattle.global_defs.specs.Fields.{IsReign}
+use Rattle.global_defs.specs.Rising.{StartsRise}
 use Rattle.gvn_model.specs.Reigns.{reign_value}
-use Rattle.lineage_defs.specs.Histories.{StartsRise}
 use Rattle.wire_defs.specs.Frames.{History}
 use Rattle.ship_defs.specs.Shipping.{announced}
 use Rattle.source_server.proofs.Begun.{all_at, at_next, announced_next, announced_same, announced_none}

@@ -1,5 +1,6 @@
 use Rattle.std.proofs.Common.{◌≡◌, ◌<◌, ◌++◌, ◌∷◌, [], ℕ, List, length, map, take, set, get_or, sym, ◌∙◌, ap, subst, arith}
 use Rattle.std.proofs.lemmas.List.{take-replicate, length-take-le}
+use Rattle.global_defs.specs.declared.limits.TheConstants.{MOST_REGIONS}
 use Rattle.global_defs.specs.Entry.{Update, Item}
 use Rattle.gvn_key.specs.Terms.{update_value}
 use Rattle.journal_defs.specs.Directory.{region_of}
@@ -35,7 +36,7 @@ loop-i-preserved c =
     let inside : i < length xs = omega (arith, c.loop-i-test.true) in
     let here : c.region_of-region.result ≡ region u = c.region_of-region.ensures.value ∙ ap (region_of c.args.directory.now.patterns) c.name_of.ensures in
     let there : region u < n = subst (λ (r : ℕ). r < n) here (omega (arith, c.region_of-region.ensures.there, c.requires.all)) in
-    let low : region u < 8 = omega (arith, there, c.requires.few) in
+    let low : region u < MOST_REGIONS = omega (arith, there, c.requires.few) in
     let place : c.from.result ≡ region u = c.from.ensures ∙ here in
     let copied = c.in_ok-copy_update.ensures in
     c.in_ok-push_item.ensures

@@ -1,5 +1,6 @@
 use Rattle.std.proofs.Common.{◌≡◌, ◌<◌, ◌+◌, ℕ, true, false, [], length, drop, get_or, ◌∙◌, ap, arith}
 use Rattle.std.specs.Prelude.{nat_lt, not}
+use Rattle.global_defs.specs.declared.limits.TheConstants.{MOST_REGIONS}
 use Rattle.journal_defs.specs.Sequence.{REGIONS}
 use Rattle.journal_defs.specs.Split.{mask_with}
 use Rattle.tp_commit.specs.Parts.{mask_by}
@@ -12,7 +13,7 @@ overflow_add-mask c =
     let lists = c.args.lists.now in
     let i = c.loop-region.region in
     let has = λ (r : ℕ). nat_lt 0 (length (get_or lists r [])) in
-    let low : i < 8 = omega (arith, c.loop-region-test.true, c.requires) in
+    let low : i < MOST_REGIONS = omega (arith, c.loop-region-test.true, c.requires) in
     let there = has_item lists i c.index-lists-region.result c.is_empty.result c.loop-region-test.true c.index-lists-region.is c.is_empty.ensures in
     let next = mask_on has i c.loop-region.mask (mask_by lists) true low (there ∙ ap not c.if-not-is_empty.true) c.loop-region.invariant in
     let small = mask_small has in
@@ -24,7 +25,7 @@ loop-region-preserved c =
     let lists = c.args.lists.now in
     let i = c.loop-region.region in
     let has = λ (r : ℕ). nat_lt 0 (length (get_or lists r [])) in
-    let low : i < 8 = omega (arith, c.loop-region-test.true, c.requires) in
+    let low : i < MOST_REGIONS = omega (arith, c.loop-region-test.true, c.requires) in
     let there = has_item lists i c.index-lists-region.result c.is_empty.result c.loop-region-test.true c.index-lists-region.is c.is_empty.ensures in
     let rest = mask_with has (drop (i + 1) REGIONS) in
     let power = shifted i low in

@@ -1,6 +1,7 @@
 use Rattle.std.proofs.Common.{◌≡◌, ◌<◌, ◌≤◌, ◌^◌, ℕ, List, [], map, take, length, get_or, Option, None, sym, ◌∙◌, ap, subst, arith}
 use Rattle.std.proofs.lemmas.List.{take-map, length-take-le}
 use Rattle.std.specs.Prelude.{nat_lt}
+use Rattle.global_defs.specs.declared.limits.TheConstants.{MOST_REGIONS}
 use Rattle.global_defs.specs.Entry.{Update, Item, Transaction}
 use Rattle.gvn_model.specs.Entries.{transaction_value}
 use Rattle.journal_defs.specs.Journal.{JournalRecord}
@@ -14,7 +15,7 @@ use Rattle.tp_commit.proofs.Ready.{ready}
 use Rattle.tp_commit.proofs.records.entry_records.Goals as goal
 
 -- the mask of the lists of all regions that there are
-mask_is : (region : Update → ℕ) (bound : ℕ) (us : List Update) → bound ≤ 8 → ((u : Update) → region u < bound) → mask_by (take bound (map (λ r. items_for region r us) REGIONS)) ≡ mask_of region us
+mask_is : (region : Update → ℕ) (bound : ℕ) (us : List Update) → bound ≤ MOST_REGIONS → ((u : Update) → region u < bound) → mask_by (take bound (map (λ r. items_for region r us) REGIONS)) ≡ mask_of region us
 mask_is region bound us few low =
     mask_same (λ r. nat_lt 0 (length (get_or (take bound (map (λ r. items_for region r us) REGIONS)) r []))) (λ r. nat_lt 0 (length (items_for region r us)))
     (λ r inside. ap (λ (l : List Item). nat_lt 0 (length l)) (items_taken region bound us few low r inside))

@@ -1,5 +1,6 @@
 use Rattle.std.proofs.Common.{◌≡◌, ◌≢◌, ◌<◌, ◌≤◌, List, [], ◌∷◌, length, ap, arith}
 use Rattle.std.specs.List.{AllByRecursion}
+use Rattle.global_defs.specs.declared.limits.TheConstants.{MOST_REGIONS}
 use Rattle.global_defs.specs.Entry.{Update}
 use Rattle.gvn_model.specs.Entries.{transaction_value}
 use Rattle.journal_defs.specs.Fit.{key_of, region_of_update}
@@ -19,7 +20,7 @@ pub returns-clause-split : goal.returns-clause-split
 returns-clause-split c =
     let region = region_of_update c.args.directory.now.patterns in
     let t = transaction_value c.args.t.now in
-    made region t (not_empty t.updates c.requires.some) (each (λ u. region u < 8) (λ u. (let a = c.regions-regions.ensures.there (key_of u).name in let b = c.regions-regions.ensures.few in omega (arith, a, b))) t.updates)
+    made region t (not_empty t.updates c.requires.some) (each (λ u. region u < MOST_REGIONS) (λ u. (let a = c.regions-regions.ensures.there (key_of u).name in let b = c.regions-regions.ensures.few in omega (arith, a, b))) t.updates)
 
 pub returns-clause-no_other : goal.returns-clause-no_other
 returns-clause-no_other c n mask r past =

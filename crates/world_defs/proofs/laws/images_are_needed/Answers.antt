@@ -1,6 +1,7 @@
 use Rattle.std.proofs.Common.{◌≡◌, ℕ, zero, suc, true, false, slice_get, Some, inl, inr, refl, sym, ◌∙◌, ap, arith}
 use Rattle.std.specs.Prelude.{codes}
-use Rattle.journal_defs.specs.Instance.{NamedMode, regions}
+use Rattle.global_defs.specs.Region.{Region}
+use Rattle.journal_defs.specs.Instance.{regions}
 use Rattle.site_defs.specs.Contents.{same_name}
 use Rattle.world_defs.specs.Answers.{NeedForward, refusal_line}
 use Rattle.world_defs.specs.Samples.{down_place, marked_without_images}
@@ -25,8 +26,8 @@ pub returns-clause-behind_it : goal.returns-clause-behind_it
 returns-clause-behind_it c = (inr (refl, (refl, inr (inr needed))), sym without_line, tt)
 
 -- there is one region
-only_region : (r : ℕ) (mode : NamedMode) → slice_get (regions marked_without_images.instance) r ≡ Some mode → mode.name ≡ codes "R"
-only_region zero mode e = let same : record { name = codes "R"; before = true } ≡ mode = cc e in ap (λ (m : NamedMode). m.name) (sym same)
+only_region : (r : ℕ) (mode : Region) → slice_get (regions marked_without_images.instance) r ≡ Some mode → mode.name ≡ codes "R"
+only_region zero mode e = let same : record { name = codes "R"; before = true } ≡ mode = cc e in ap (λ (m : Region). m.name) (sym same)
 only_region (suc r) mode e = cc e
 
 differ : codes "Q" ≡ codes "R" → ⊥

@@ -1,4 +1,5 @@
 use Rattle.std.proofs.Common.{◌≡◌, ◌≤◌, ◌<◌, ◌+◌, ◌-◌, [], ◌∷◌, take, drop, ◌∙◌, arith}
+use Rattle.global_defs.specs.declared.limits.TheConstants.{LONGEST_BODY}
 use Rattle.disk_defs.specs.Gates.{NoGate, gate_at}
 use Rattle.disk_defs.proofs.Told.{weaker_told, both_weak}
 use Rattle.entry_index.specs.Pieces.{IsPieceOf}
@@ -24,7 +25,7 @@ returns-then-n-eq0-clause-outside g c _ =
     let n = c.from-n.result in
     let same : n ≡ m = c.from-n.ensures in
     let sizes : c.number_at.new.self.size ≡ p.size = c.number_at.ensures.same.size ∙ c.byte_at.ensures.same.size in
-    let unfit : 1 ≤ n → n ≤ 1048576 → p.size - at < n + 6 = λ low high. elim c.then-n-eq0.branch [
+    let unfit : 1 ≤ n → n ≤ LONGEST_BODY → p.size - at < n + 6 = λ low high. elim c.then-n-eq0.branch [
       | then-n-eq0-via-then-n-eq0 w ↦ absurd (omega (arith, low, w.if-n-eq0.true))
       | then-n-eq0-via-else-n-eq0+then-n-gt-LONGEST w ↦ absurd (omega (arith, high, w.if-n-gt-LONGEST.true))
       | then-n-eq0-via-else-n-eq0+else-n-gt-LONGEST+then-self-at w ↦ omega (arith, w.if-self-at.true, sizes)

@@ -6,8 +6,9 @@ use Rattle.std.specs.FinMap as globals
 use Rattle.global_defs.specs.Encoded.{encoded}
 use Rattle.gvn_globals.specs.Nodes.{is_coded}
 use Rattle.gvn_globals.specs.declared.globals.Node.{Node}
-use Rattle.gvn_globals.proofs.Coded.{coded_inserted, is_coded_at, set_coded, code_cmp}
+use Rattle.gvn_globals.proofs.Coded.{coded_inserted, is_coded_at, set_coded}
 use Rattle.gvn_globals.proofs.globals.Globals.set.Goals as goal
+use Rattle.global_defs.proofs.Basics.{bytes_cmp}
 
 at_most_one : (b : Bool) → (if b then 0 else 1) ≤ 1
 at_most_one true = omega arith
@@ -31,5 +32,5 @@ pub returns-clause-ok : goal.returns-clause-ok
 unfolding node
 returns-clause-ok c =
     set_coded c.args.key c.code.ensures.valid (Some (node c)) c.self.inside.nodes.entries c.insert.new.self.entries c.self.invariant.0 (still_coded c)
-    (λ q. c.in_ok-insert.ensures.updates.0 q ∙ ap (λ d. if is_at (code_cmp d) q then Some (node c) else lookup (is_at (code_cmp q)) c.self.inside.nodes.entries) (is_code c)) c.args.value refl
+    (λ q. c.in_ok-insert.ensures.updates.0 q ∙ ap (λ d. if is_at (bytes_cmp d) q then Some (node c) else lookup (is_at (bytes_cmp q)) c.self.inside.nodes.entries) (is_code c)) c.args.value refl
     ∙ ap (λ m. globals.insert m c.args.key c.args.value) c.self.view_is

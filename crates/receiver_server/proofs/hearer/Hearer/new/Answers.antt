@@ -1,8 +1,8 @@
 use Rattle.std.proofs.Common.{◌≡◌, option_map, None, Some, sym, ap, ◌∙◌}
 use Rattle.std.specs.List.{last_or}
+use Rattle.global_defs.specs.Rising.{begun_by}
 use Rattle.gvn_model.specs.declared.reign.Reign.{Reign}
 use Rattle.gvn_model.specs.Reigns.{reign_value}
-use Rattle.lineage_defs.specs.Histories.{begun_by}
 use Rattle.receiver_server.proofs.Knows.{begun_last}
 use Rattle.receiver_server.proofs.hearer.Hearer.new.Goals as goal
 use Rattle.receiver_server.proofs.hearer.Hearer.new.Goals.{in-Some+in_ok-copy-in-Some, in-None}

@@ -5,10 +5,11 @@ use Rattle.receiver_server.specs.Listenings.{Listening}
 use Rattle.wire_defs.specs.Links.{Receiving}
 use Rattle.session_turns.specs.Progress.{IsStill, HasSentOn}
 use Rattle.session_turns.specs.Turns.{HasFollowed, IsShort, settled_of}
-use Rattle.session_turns.proofs.Progress.{empty_same, hears_same, moved_or_sent, never_cut, ok_of, sent_of, on_weaker, still_sends}
+use Rattle.session_turns.proofs.Progress.{empty_same, hears_same, moved_or_sent, never_cut, sent_of, on_weaker, still_sends}
 use Rattle.session_turns.proofs.Cuts.{err_weaker, settled_on, settled_over, settled_short, settled_cut, settled_whole, settled_ok, settled_err, settled_comes, sent_cuts, step_cuts, most_one, has_most}
 use Rattle.session_turns.proofs.machines.Machines.step.Goals as goal
 use Rattle.session_turns.proofs.machines.Machines.step.Goals.{else-self-via-then-self+else-not-has_waiting, else-self-via-else-self}
+use Rattle.global_defs.proofs.Basics.{ok_of}
 
 pub returns-then-is_err-clause-comes : goal.returns-then-is_err-clause-comes
 returns-then-is_err-clause-comes g c = λ shown begun h.

@@ -1,5 +1,6 @@
 use Rattle.std.proofs.Common.{ℕ, ◌<◌, refl, sym, subst, arith}
 use Rattle.std.specs.Prelude.{◌^◌}
+use Rattle.global_defs.specs.declared.limits.TheConstants.{NUMBERS_END}
 use Rattle.site_store.proofs.Places.{counts_places, whole_places, same_count, same_whole}
 use Rattle.region_store.proofs.Making.{changed_none}
 use Rattle.site_store.proofs.Committed as committed
@@ -16,7 +17,7 @@ pub returns-in_err-remember-clause-ready : goal.returns-in_err-remember-clause-r
 returns-in_err-remember-clause-ready g c =
     committed.ready_prepared (g.D.Disk.disk c.args.disk.now) (g.D.Disk.disk c.prepare.new.disk) c.args.self.now c.remember.new.self c.prepare.new.self c.requires.ready c.prepare.ensures.ready c.prepare.ensures.count c.prepare.ensures.frame
     c.remember.ensures.journals c.remember.ensures.same.instance c.remember.ensures.same.layout c.remember.ensures.changed
-    (subst (λ (n : ℕ). n < 2 ^ 40) (sym (same_count c.args.self.now.entries c.remember.new.self.entries c.in_err-remember.ensures.kept.entries)) c.requires.ready.few)
+    (subst (λ (n : ℕ). n < NUMBERS_END) (sym (same_count c.args.self.now.entries c.remember.new.self.entries c.in_err-remember.ensures.kept.entries)) c.requires.ready.few)
     (same_whole c.args.self.now.entries c.remember.new.self.entries c.in_err-remember.ensures.kept.entries c.requires.ready.whole) c.in_err-remember.ensures.kept.entries.regions
 
 pub returns-in_err-remember-clause-frame : goal.returns-in_err-remember-clause-frame

@@ -1,7 +1,7 @@
 use Rattle.std.proofs.Common.{◌≡◌, max, drop, map}
 use Rattle.journal_defs.specs.Instance.{generation}
 use Rattle.instance_file.specs.Values.{record_value}
-use Rattle.site_files.proofs.finding.generation_in.Given as goal
+use Rattle.instance_file.proofs.records.InstanceRecords.generation.Given as goal
 
 -- the greatest so far and that of the records that are left
 abbrev pub invariant-loop-record : goal.invariant-loop-record

@@ -1,9 +1,10 @@
 // Random scripts, and the checksums of what they must print by a plain model of the program, which tools/plain_model is.
 ghost use Rattle.std.specs.Prelude.{◌<◌};
 
-use super::ran::ran_well;
 use super::random_table::{GRAMMAR, TABLE};
-use site_runner::Status;
+use repl_disk::MemDisk;
+use repl_io::{MemSink, MemSource};
+use site_runner::{Status, run};
 use std::alloc::Global;
 use std::process::Abort;
 
@@ -125,13 +126,31 @@ fn checksum(bytes: &[u8]) -> u64 {
     sum
 }
 
+/// Runs a script over eight disks.
+fn ran(rt: &impl Abort, alloc: Global, script: &[u8]) -> (Status, Vec<u8>) {
+    let mut words = Vec::new(alloc);
+    let word = String::from_str(alloc, "run").expect(rt, "memory");
+    words.push(word).expect(rt, "memory");
+    let mut disks = Vec::new(alloc);
+    for _ in 0..8 {
+        let disk = MemDisk::new(alloc).expect(rt, "memory");
+        disks.push(disk).expect(rt, "memory");
+    }
+    let script = script.to_vec(alloc).expect(rt, "memory");
+    let mut source = MemSource::new(script, Vec::new(alloc));
+    let sink = MemSink::new(alloc, Vec::new(alloc), 4096, 16_384);
+    let mut sink = sink.expect(rt, "memory");
+    let status = run(alloc, &words, &mut source, &mut sink, &mut disks);
+    (status, sink.bytes().to_vec(alloc).expect(rt, "memory"))
+}
+
 /// A row is a seed and a checksum. The seed's script ends well, and what it prints has that checksum.
 fn prints_as_told(rt: &impl Abort, alloc: Global, rules: &[&'static str], row: &str) {
     let (seed, told) = row.split_once(' ').expect(rt, "a checksum");
     let told = u64::from_str_radix(told, 16).expect(rt, "a checksum");
     let number = seed.parse::<u64>().expect(rt, "a seed");
     let script = script(rt, alloc, rules, number);
-    let (status, out) = ran_well(rt, alloc, script.as_bytes());
+    let (status, out) = ran(rt, alloc, script.as_bytes());
     assert_eq!(rt; status, Status::Ok, "seed {seed}");
     assert_eq!(rt; checksum(out.as_slice()), told, "seed {seed}");
 }

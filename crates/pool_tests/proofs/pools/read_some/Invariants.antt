@@ -1,5 +1,5 @@
 use Rattle.std.proofs.Common.{◌≡◌, ◌≤◌}
-use Rattle.wire_tests.proofs.pools.read_some.Given as goal
+use Rattle.pool_tests.proofs.pools.read_some.Given as goal
 
 abbrev pub invariant-loop : goal.invariant-loop
 invariant-loop l = record {

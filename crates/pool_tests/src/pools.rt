@@ -1,6 +1,7 @@
 // Reads beside puts: worked counts, and threads.
 ghost use Rattle.std.specs.Prelude.{◌≡◌, ℕ, ◌+◌, ◌-◌, ◌^◌, ◌<◌, ◌≤◌, vec_len, vec_capacity};
 ghost use Rattle.std.specs.Thread.{IsSync};
+ghost use Rattle.global_defs.specs.declared.limits.TheConstants.{NUMBERS_END};
 ghost use Rattle.jnl_pool.specs.Pooling.{next_number};
 
 use jnl_pool::{Pool, ReadAnswer, Reader, Writer};
@@ -44,7 +45,7 @@ fn lists_entry(list: &[Put], number: u64) -> bool {
 // Puts so many entries, and hardens each. Pushes each to the list, so that a reader can take from it what it missed.
 fn put_all(pool: &Pool, writer: Writer, list: Vec<Put>, count: u64) -> (Writer, Vec<Put>)
     requires pool { writer.table ≡ pool.now.table }
-    requires room { next_number writer + count < 2 ^ 40 }
+    requires room { next_number writer + count < NUMBERS_END }
     requires list { vec_len list + count ≤ vec_capacity list }
     ensures { result.0.table ≡ pool.now.table }
 {

@@ -1,6 +1,5 @@
--- Counts of faults (this project's rule: a failure is answered only where a count rose, and a count that stands at its last value is taken as risen).
-use Rattle.std.specs.Prelude.{ℕ, ◌+◌, ◌-◌, ◌^◌, ◌≤◌, min, IsErr}
-use Rattle.std.specs.declared.result.Result.{Result}
+-- Counts of faults and of calls, each a u64 (this project's rule: a failure is answered only where a count rose, and a count that stands at its last value is taken as risen).
+use Rattle.std.specs.Prelude.{ℕ, ◌+◌, ◌-◌, ◌^◌, ◌≤◌, min, Result, OnErr}
 
 -- the last value of a count, which is a u64
 abbrev pub LAST : ℕ
@@ -17,4 +16,4 @@ Rose before now = counted_on before ≤ now
 -- the count never falls, and a failure is answered only where it rose
 pub record HasCause {T E : Type 0} (before now : ℕ) (result : Result T E) : Type 0 where
   pub later : before ≤ now
-  pub failed : IsErr result → Rose before now
+  pub failed : OnErr result (Rose before now)

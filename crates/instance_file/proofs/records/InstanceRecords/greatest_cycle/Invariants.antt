@@ -1,7 +1,7 @@
 use Rattle.std.proofs.Common.{◌≡◌, max, drop, map}
 use Rattle.journal_defs.specs.Instance.{greatest_cycle}
 use Rattle.instance_file.specs.Values.{record_value}
-use Rattle.instance_file.proofs.instance.greatest_cycle.Given as goal
+use Rattle.instance_file.proofs.records.InstanceRecords.greatest_cycle.Given as goal
 
 -- the greatest so far and that of the records that are left
 abbrev pub invariant-loop-record : goal.invariant-loop-record

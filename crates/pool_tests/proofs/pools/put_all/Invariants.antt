@@ -1,6 +1,6 @@
 use Rattle.std.proofs.Common.{◌≡◌, ◌+◌, vec_len, vec_capacity}
 use Rattle.jnl_pool.specs.Pooling.{next_number}
-use Rattle.wire_tests.proofs.pools.put_all.Given as goal
+use Rattle.pool_tests.proofs.pools.put_all.Given as goal
 
 abbrev pub invariant-loop : goal.invariant-loop
 invariant-loop l = record {
