@@ -1,0 +1,1 @@
+a=$(valgrind --tool=callgrind --callgrind-out-file=/tmp/cg.a $1 4000 1 1 2>&1 | sed -n 's/.*Collected : //p'); b=$(valgrind --tool=callgrind --callgrind-out-file=/tmp/cg.b $1 4000 11 1 2>&1 | sed -n 's/.*Collected : //p'); echo "an entry: $(( (b-a)/40000 ))"
