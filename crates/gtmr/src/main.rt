@@ -71,9 +71,11 @@ fn run_over<D: Disk>(rt: &HostRuntime, words: &[String], disks: Option<Vec<D>>) 
 fn run_standard(rt: &HostRuntime, words: &[String]) -> Status {
     match repl_words::words(rt.alloc(), words) {
         Ok(Words::Run { folder: None }) => run_over(rt, words, memory_disks(rt)),
-        Ok(Words::Run {
-            folder: Some(folder),
-        }) => run_over(rt, words, folder_disks(rt, folder.as_str())),
+        Ok(
+            Words::Run {
+                folder: Some(folder),
+            },
+        ) => run_over(rt, words, folder_disks(rt, folder.as_str())),
         Err(WordsError::BadWords) => Status::BadWords,
         Err(WordsError::NoMemory) => Status::NoMemory,
     }

@@ -2,4 +2,8 @@
 #![tactic(auto)]
 
 #[cfg(test)]
-mod folders;
+mod ran;
+#[cfg(test)]
+mod refused;
+#[cfg(test)]
+mod two_runs;

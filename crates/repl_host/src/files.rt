@@ -53,30 +53,32 @@ impl HostFiles {
         closed
     }
 
-    /// The file of a number, which is opened where it isn't open; nothing where none stands in the folder.
-    fn open(&mut self, file: u32) -> io::Result<Option<&mut Handle>>
+    /// Makes a file the one that was used last, and opens it where it isn't open. It answers whether one stands in the folder.
+    fn open(&mut self, file: u32) -> io::Result<bool>
         ensures failed { self.old.sync_failed ≡ true → IsErr result }
         ensures stays { self.old.sync_failed ≡ true → self.new.sync_failed ≡ true }
     {
         self.test_syncs()?;
         if self.handles.touch(file) {
-            return Ok(self.handles.last());
+            return Ok(true);
         }
         if !self.folder.lock()? {
-            return Ok(None);
+            return Ok(false);
         }
         self.make_room()?;
         match self.folder.open(file)? {
-            None => Ok(None),
+            None => Ok(false),
             Some(found) => {
                 self.handles.add(Handle::new(file, found))?;
-                Ok(self.handles.last())
+                Ok(true)
             }
         }
     }
 
     /// Makes a file that doesn't stand in the folder.
-    fn create(&mut self, file: u32) -> io::Result<()> {
+    fn create(&mut self, file: u32) -> io::Result<()>
+        ensures stays { self.old.sync_failed ≡ true → self.new.sync_failed ≡ true }
+    {
         self.folder.lock_or_create()?;
         self.make_room()?;
         let made = self.folder.create(file)?;
@@ -89,10 +91,10 @@ impl HostFiles {
         ensures failed { self.old.sync_failed ≡ true → IsErr result }
         ensures stays { self.old.sync_failed ≡ true → self.new.sync_failed ≡ true }
     {
-        match self.open(file)? {
-            None => Ok(0),
-            Some(open) => open.len(),
+        if !self.open(file)? {
+            return Ok(0);
         }
+        self.handles.last()?.len()
     }
 
     /// Fills the buffer with the bytes from a place on.
@@ -100,11 +102,13 @@ impl HostFiles {
         ensures failed { self.old.sync_failed ≡ true → IsErr result }
         ensures stays { self.old.sync_failed ≡ true → self.new.sync_failed ≡ true }
     {
-        match self.open(file)? {
-            None if buf.is_empty() => Ok(()),
-            None => Err(ErrorKind::UnexpectedEof.into()),
-            Some(open) => open.read_at(at, buf),
+        if self.open(file)? {
+            return self.handles.last()?.read_at(at, buf);
         }
+        if !buf.is_empty() {
+            return Err(ErrorKind::UnexpectedEof.into());
+        }
+        Ok(())
     }
 
     /// Writes all the bytes at a place, in a file that is made where none stands there.
@@ -112,13 +116,10 @@ impl HostFiles {
         ensures failed { self.old.sync_failed ≡ true → IsErr result }
         ensures stays { self.old.sync_failed ≡ true → self.new.sync_failed ≡ true }
     {
-        if self.open(file)?.is_none() {
+        if !self.open(file)? {
             self.create(file)?;
         }
-        match self.handles.last() {
-            None => Err(ErrorKind::NotFound.into()),
-            Some(open) => open.write_at(at, bytes),
-        }
+        self.handles.last()?.write_at(at, bytes)
     }
 
     /// Puts a file, and all names that lead to it, on the disk for good. To a file that isn't there nothing was written.
@@ -126,13 +127,11 @@ impl HostFiles {
         ensures failed { self.old.sync_failed ≡ true → IsErr result }
         ensures stays { self.old.sync_failed ≡ true → self.new.sync_failed ≡ true }
     {
-        match self.open(file)? {
-            None => Ok(()),
-            Some(open) => {
-                open.sync()?;
-                self.folder.sync_names()
-            }
+        if !self.open(file)? {
+            return Ok(());
         }
+        self.handles.last()?.sync()?;
+        self.folder.sync_names()
     }
 
     /// Puts a file on the disk for good. Where that fails every later call does.

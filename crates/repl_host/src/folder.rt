@@ -1,11 +1,10 @@
 //! The folder of one disk: its paths, its lock, its making and its syncs.
 use itoa::Buffer;
 use std::alloc::{AllocError, Global};
-use std::fs;
 use std::fs::{File, OpenOptions};
-use std::io;
 use std::io::ErrorKind;
 use std::os::fd::AsRawFd;
+use std::{fs, io};
 
 /// How many digits a file's number has at most.
 const DIGITS: usize = 10;

@@ -4,6 +4,7 @@ ghost use Rattle.std.specs.Prelude.{◌≡◌, ◌+◌, ◌-◌, ◌^◌, ℕ, m
 use std::alloc::{AllocError, Global};
 use std::fs::File;
 use std::io;
+use std::io::ErrorKind;
 use std::os::unix::fs::FileExt;
 
 /// How many files of a disk are open at once at most.
@@ -98,9 +99,12 @@ impl Handles {
         }
     }
 
-    /// The file that was used last.
-    pub fn last(&mut self) -> Option<&mut Handle> {
-        self.open.last_mut()
+    /// The file that was used last. It fails where none is open.
+    pub fn last(&mut self) -> io::Result<&mut Handle> {
+        match self.open.last_mut() {
+            Some(used) => Ok(used),
+            None => Err(ErrorKind::NotFound.into()),
+        }
     }
 
     /// Closes the file that wasn't used longest, where no more may be open. It's synced before, where something was written to it.

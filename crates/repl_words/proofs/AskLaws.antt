@@ -50,10 +50,10 @@ options_found given (option ∷ []) after e =
     asked_joined given after after option [] c.0 c.1 (none after)
 options_found given (option ∷ word ∷ rest) after e =
     three (AreOptions given (option ∷ word ∷ rest) after) (starts_with nat_eq option (codes "--disk=")) (bytes_eq option (codes "--disk")) _ _ after e
-      (λ is f. option_and_then_some (λ now. options_reading now (word ∷ rest)) (with_disk given (drop 7 option)) after f
-        (λ now with more. asked_joined given now after option (word ∷ rest) is with (options_found now (word ∷ rest) after more)))
-      (λ is f. option_and_then_some (λ now. options_reading now rest) (with_disk given word) after f
-        (λ now with more. asked_apart given now after option word rest is with (options_found now rest after more)))
+    (λ is f. option_and_then_some (λ now. options_reading now (word ∷ rest)) (with_disk given (drop 7 option)) after f
+    (λ now with more. asked_joined given now after option (word ∷ rest) is with (options_found now (word ∷ rest) after more)))
+    (λ is f. option_and_then_some (λ now. options_reading now rest) (with_disk given word) after f
+    (λ now with more. asked_apart given now after option word rest is with (options_found now rest after more)))
 
 told : (o : Option Given) (s : Settings) → option_and_then (λ given. Some (settings_given given)) o ≡ Some s → (given : Given) × (o ≡ Some given) × (settings_given given ≡ s)
 told None s e = absurd (cc e)

@@ -132,9 +132,9 @@ forms P none joined apart (o ∷ []) h =
     subst (λ (t : Text). P (t ∷ [])) (sym (begins o x.0)) (joined (drop 7 o) (fits_if (drop 7 o) x.1))
 forms P none joined apart (o ∷ w ∷ rest) h =
     two (P (o ∷ w ∷ rest)) (starts_with nat_eq o (codes "--disk=")) (bytes_eq o (codes "--disk")) _ _ h
-      (λ is k. absurd (nonempty w rest (alone_if (drop 7 o) (w ∷ rest) k).1))
-      (λ is k. let a = alone_if w rest k in
-        subst (λ (r : List Text). P (o ∷ w ∷ r)) (sym a.1) (subst (λ (t : Text). P (t ∷ w ∷ [])) (sym ((bytes_eq-Decides o (codes "--disk")).0 is)) (apart w a.0)))
+    (λ is k. absurd (nonempty w rest (alone_if (drop 7 o) (w ∷ rest) k).1))
+    (λ is k. let a = alone_if w rest k in
+    subst (λ (r : List Text). P (o ∷ w ∷ r)) (sym a.1) (subst (λ (t : Text). P (t ∷ w ∷ [])) (sym ((bytes_eq-Decides o (codes "--disk")).0 is)) (apart w a.0)))
 
 told_if : (o : Option Given) → is_some (option_and_then (λ g. Some (settings_given g)) o) ≡ true → is_some o ≡ true
 told_if None h = h

@@ -30,7 +30,7 @@ alone false d word = refl
 -- in two words, of which the first isn't joined to its own
 two : (c d e f : Bool) (joined word : List ℕ) → (c ≡ true → e ≡ false)
     → (e && f) ≡ is_some {T = Given} (if c then option_and_then (λ now. options_reading now (word ∷ [])) (if d then Some (given joined) else None)
-      else if e then option_and_then (λ now. options_reading now []) (if f then Some (given word) else None) else None)
+    else if e then option_and_then (λ now. options_reading now []) (if f then Some (given word) else None) else None)
 two true true e f joined word one = ap (λ x. x && f) (one refl) ∙ sym (behind joined word [])
 two true false e f joined word one = ap (λ x. x && f) (one refl)
 two false d true true joined word one = refl
@@ -40,7 +40,7 @@ two false d false f joined word one = refl
 -- in more
 more : (c d e f : Bool) (joined word last : List ℕ) (rest : List (List ℕ))
     → false ≡ is_some {T = Given} (if c then option_and_then (λ now. options_reading now (word ∷ last ∷ rest)) (if d then Some (given joined) else None)
-      else if e then option_and_then (λ now. options_reading now (last ∷ rest)) (if f then Some (given word) else None) else None)
+    else if e then option_and_then (λ now. options_reading now (last ∷ rest)) (if f then Some (given word) else None) else None)
 more true true e f joined word last rest = sym (behind joined word (last ∷ rest))
 more true false e f joined word last rest = refl
 more false d true true joined word last rest = sym (behind word last rest)
