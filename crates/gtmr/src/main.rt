@@ -1,10 +1,12 @@
 //! The program gtmr.
 #![tactic(auto)]
 
-use repl_disk::MemDisk;
+use repl_disk::{Disk, MemDisk};
+use repl_host::HostDisk;
 use repl_io::{StdSink, StdSource};
+use repl_words::{Words, WordsError};
 use site_runner::{Status, run};
-use std::io::{BufReader, BufWriter, Write};
+use std::io::BufReader;
 use std::process::ExitCode;
 use std::{env, io};
 
@@ -25,10 +27,10 @@ fn words(rt: &HostRuntime) -> Result<Vec<String>, Status> {
 }
 
 /// How many disks there are. As many sites can be made.
-const DISKS: usize = 8;
+const DISKS: u32 = 8;
 
 /// Disks in memory, or nothing where there was no memory for them.
-fn disks(rt: &HostRuntime) -> Option<Vec<MemDisk>> {
+fn memory_disks(rt: &HostRuntime) -> Option<Vec<MemDisk>> {
     let mut disks = Vec::new(rt.alloc());
     for _ in 0..DISKS {
         disks.push(MemDisk::new(rt.alloc()).ok()?).ok()?;
@@ -36,27 +38,46 @@ fn disks(rt: &HostRuntime) -> Option<Vec<MemDisk>> {
     Some(disks)
 }
 
-/// Runs the script of standard input, and hands all that is written on to standard output.
-fn run_standard(rt: &HostRuntime, words: &[String]) -> Status {
-    let Some(mut disks) = disks(rt) else {
+/// The disks of a folder of the machine, or nothing where there was no memory for them.
+fn folder_disks(rt: &HostRuntime, folder: &str) -> Option<Vec<HostDisk>> {
+    let mut disks = Vec::new(rt.alloc());
+    for number in 1..=DISKS {
+        disks
+            .push(HostDisk::new(rt.alloc(), *rt, folder, number).ok()?)
+            .ok()?;
+    }
+    Some(disks)
+}
+
+/// Runs the script of standard input over disks. What a command answers is written to standard output before the next line is
+/// waited for.
+fn run_over<D: Disk>(rt: &HostRuntime, words: &[String], disks: Option<Vec<D>>) -> Status {
+    let Some(mut disks) = disks else {
         return Status::NoMemory;
     };
     let Ok(reader) = BufReader::new(rt.alloc(), rt.reader()) else {
         return Status::NoMemory;
     };
-    let Ok(mut writer) = BufWriter::new(rt.alloc(), io::writer(rt)) else {
-        return Status::NoMemory;
-    };
-    let status = run(
+    run(
         rt.alloc(),
         words,
         &mut StdSource::new(reader),
-        &mut StdSink::new(&mut writer),
+        &mut StdSink::new(io::writer(rt)),
         &mut disks,
-    );
-    match writer.flush() {
-        Ok(()) => status,
-        Err(_) => Status::SinkFault,
+    )
+}
+
+/// Runs the script of standard input over disks of the kind that the words name.
+fn run_standard(rt: &HostRuntime, words: &[String]) -> Status {
+    match repl_words::words(rt.alloc(), words) {
+        Ok(Words::Run { folder: None }) => run_over(rt, words, memory_disks(rt)),
+        Ok(
+            Words::Run {
+                folder: Some(folder),
+            },
+        ) => run_over(rt, words, folder_disks(rt, folder.as_str())),
+        Err(WordsError::BadWords) => Status::BadWords,
+        Err(WordsError::NoMemory) => Status::NoMemory,
     }
 }
 
@@ -65,7 +86,7 @@ fn report(rt: &HostRuntime, status: Status) -> u8 {
     match status {
         Status::Ok => 0,
         Status::BadWords => {
-            let _ = eprintln!(rt; "usage: gtmr run");
+            let _ = eprintln!(rt; "usage: gtmr run [--disk memory|DIR]");
             1
         }
         Status::BadLine { line, column } => {

@@ -1,5 +1,5 @@
 // The top call.
-ghost use Rattle.std.specs.Prelude.{◌≡◌, ◌≢◌, ◌≤◌, ◌<◌, ◌+◌, ◌⊎◌, ◌↔◌, ℕ, List, [], ◌∷◌, map, length, codes, string_bytes, IfSome, OnOk, IfErr, MatchBool, true, false};
+ghost use Rattle.std.specs.Prelude.{◌≡◌, ◌≢◌, ◌≤◌, ◌<◌, ◌+◌, ◌⊎◌, ◌↔◌, ℕ, List, [], map, length, string_bytes, is_some, None, IfSome, OnOk, IfErr, true};
 ghost use Rattle.std.specs.Io.KnownBytes.{Consumes};
 ghost use Rattle.global_defs.specs.Counts.{Rose};
 ghost use Rattle.world_defs.specs.World.{World, IsFresh};
@@ -8,6 +8,7 @@ ghost use Rattle.command_defs.specs.Lines.{lines_of};
 ghost use Rattle.command_defs.specs.Commands.{IsFormed, IsWhole};
 ghost use Rattle.command_defs.specs.Script.{IsScript, IsBadAt};
 ghost use Rattle.repl_script.specs.Commands.{command_value};
+ghost use Rattle.repl_words.specs.Words.{words_reading};
 ghost use Rattle.site_runner.specs.Sites.{AreReady};
 ghost use Rattle.site_runner.specs.Tied.{Tied, Matched};
 ghost use Rattle.site_runner.specs.Ends.{RanTo, StaysFit, IsTooLong, IsDue};
@@ -26,6 +27,7 @@ use line_reader::{LineEnd, LineError, ReadAhead};
 use repl_disk::Disk;
 use repl_io::{Sink, Source};
 use repl_script::{Command, Script, ScriptError};
+use repl_words::is_command_line;
 use std::alloc::Global;
 use world_laws::fitness::steps_keep_fit;
 
@@ -37,21 +39,6 @@ const MOST_BYTES: u32 = 409_700_001;
 
 /// How many bytes a short answer has at most.
 const SHORT_ANSWER: usize = 96;
-
-fn is_word(word: &str) -> bool
-    ensures { MatchBool result (word.now ≡ codes "run") (word.now ≢ codes "run") }
-{
-    word == "run"
-}
-
-fn is_run(words: &[String]) -> bool
-    ensures { MatchBool result (map string_bytes words.now ≡ codes "run" ∷ []) (map string_bytes words.now ≢ codes "run" ∷ []) }
-{
-    match words {
-        [word] => is_word(word.as_str()),
-        _ => false,
-    }
-}
 
 /// No text yet, with room for a short answer where there is memory.
 fn no_text(alloc: Global) -> Bytes
@@ -227,7 +214,7 @@ fn run_script<S: Source, K: Sink, D: Disk>(
     run_lines(alloc, slots, &mut ahead, script, out)
 }
 
-/// Does all that the program does, for the words behind the program's name: reads a script, runs its commands in order on sites
+/// Does all that the program does, for the words behind the program's name, but for the choice of disks: reads a script, runs its commands in order on sites
 /// over the disks, and writes what they answer. Sites stand on the first disks, in the order of their making. It reads the script
 /// ahead in pieces of at most 4,096 bytes. The disks are given back in their order, whatever the status.
 ///
@@ -242,7 +229,7 @@ pub fn run<S: Source, K: Sink, D: Disk>(
     out: &mut K,
     disks: &mut Vec<D>,
 ) -> Status
-    ensures bad_words { (result ≡ Status.BadWords) ↔ (map string_bytes words.now ≢ codes "run" ∷ []) }
+    ensures bad_words { (result ≡ Status.BadWords) ↔ (words_reading (map string_bytes words.now) ≡ None) }
     ensures nothing { result ≡ Status.BadWords → (script.new ≡ script.old) × (out.new ≡ out.old) × (disks.new ≡ disks.old) }
     ensures meaning { (w : World) → AreDisks D.disk disks.old.items w → IsFresh w
         → (after : World) × AreDisks D.disk disks.new.items after × RanTo result (S.left script.old) (S.left script.new) w after (K.written out.old) (K.written out.new) × StaysFit result w after }
@@ -252,11 +239,11 @@ pub fn run<S: Source, K: Sink, D: Disk>(
     ensures too_long { result ≡ Status.ScriptTooLong → IfSome (S.left script.old) (λ input. IsTooLong (lines_of input)) }
     ensures source { result ≡ Status.SourceFault → Rose (S.faults script.old) (S.faults script.new) }
     ensures sink { result ≡ Status.SinkFault → Rose (K.faults out.old) (K.faults out.new) }
-    ensures complete { (input : List ℕ) (due : Status) → map string_bytes words.now ≡ codes "run" ∷ [] → S.left script.old ≡ Some input → IsDue due (lines_of input)
+    ensures complete { (input : List ℕ) (due : Status) → is_some (words_reading (map string_bytes words.now)) ≡ true → S.left script.old ≡ Some input → IsDue due (lines_of input)
         → (Rose (S.faults script.old) (S.faults script.new) → ⊥) → (Rose (K.faults out.old) (K.faults out.new) → ⊥) → (result ≡ due) ⊎ (result ≡ Status.NoMemory) }
     ensures bound { (bytes : List ℕ) × Consumes (S.left script.old) (S.left script.new) bytes × (length bytes ≤ 409700001) }
 {
-    if !is_run(words) {
+    if !is_command_line(words) {
         return Status::BadWords;
     }
     match take_disks(alloc, disks) {

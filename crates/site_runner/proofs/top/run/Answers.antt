@@ -5,8 +5,8 @@ use Rattle.site_runner.proofs.Stays.{stays_fit}
 use Rattle.site_runner.proofs.Moved.{tied_fresh, are_disks, free_ready}
 use Rattle.site_runner.proofs.top.run.Goals as goal
 
-pub returns-then-not-is_run-clause-meaning : goal.returns-then-not-is_run-clause-meaning
-returns-then-not-is_run-clause-meaning g c w h f = not_run w _ _ (AreDisks g.D.Disk.disk c.args.disks.now.items) h
+pub returns-then-not-is_command_line-clause-meaning : goal.returns-then-not-is_command_line-clause-meaning
+returns-then-not-is_command_line-clause-meaning g c w h f = not_run w _ _ (AreDisks g.D.Disk.disk c.args.disks.now.items) h
 
 pub returns-in-Err-clause-meaning : goal.returns-in-Err-clause-meaning
 returns-in-Err-clause-meaning g c w h f =

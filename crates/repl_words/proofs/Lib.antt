@@ -1,0 +1,3 @@
+pub mod AskLaws
+pub mod Clapped
+pub mod Tested
