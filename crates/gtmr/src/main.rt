@@ -1,6 +1,7 @@
 //! The program gtmr.
 #![tactic(auto)]
 
+use read_ahead::ReadAhead;
 use repl_disk::{Disk, MemDisk};
 use repl_host::HostDisk;
 use repl_io::{StdSink, StdSource};
@@ -38,13 +39,12 @@ fn memory_disks(rt: &HostRuntime) -> Option<Vec<MemDisk>> {
     Some(disks)
 }
 
-/// The disks of a folder of the machine, or nothing where there was no memory for them.
-fn folder_disks(rt: &HostRuntime, folder: &str) -> Option<Vec<HostDisk>> {
+/// The disks of a folder of the machine, which are read ahead, or nothing where there was no memory for them.
+fn folder_disks(rt: &HostRuntime, folder: &str) -> Option<Vec<ReadAhead<HostDisk>>> {
     let mut disks = Vec::new(rt.alloc());
     for number in 1..=DISKS {
-        disks
-            .push(HostDisk::new(rt.alloc(), *rt, folder, number).ok()?)
-            .ok()?;
+        let disk = HostDisk::new(rt.alloc(), *rt, folder, number).ok()?;
+        disks.push(ReadAhead::over(rt.alloc(), disk)).ok()?;
     }
     Some(disks)
 }
