@@ -19,6 +19,7 @@ mod Heads
 pub mod Order
 pub mod Rows
 pub mod ReadParts
+mod Formed
 pub mod IndexLaws
 pub mod Alone
 pub mod Begun

@@ -9,6 +9,7 @@ use Rattle.disk_defs.specs.Disk.{Files}
 use Rattle.global_defs.specs.Entry.{Stamp, Reign, Entry, Sequence}
 use Rattle.global_defs.specs.Prefix.{stamp_at}
 use Rattle.gvn_model.specs.declared.entry.Transaction.{Transaction}
+use Rattle.gvn_model.specs.Entries.{transaction_value}
 use Rattle.journal_defs.specs.Journal.{Part}
 use Rattle.journal_defs.specs.Sequence.{REGIONS, entry_among, entry_with}
 use Rattle.mupip_recover.specs.Entries.{stamped}
@@ -128,3 +129,27 @@ no_stamp files reigns row n o is at = ap (entry_with at.part) is ∙ at.entry
 
 pub some_there : (files : Files) (reigns : List Reign) (row : List PartPlace) (n : ℕ) (o : Option Entry) → None ≡ o → IsIn files reigns row n o → ⊥
 some_there files reigns row n o none at = let gone : None ≡ Some at.e = none ∙ at.some in cc
+
+of_stamped : (s : Stamp) (found : Option Transaction) → option_map transaction_value found ≡ option_map (λ (e : Entry). e.transaction) (option_map (stamped s) found)
+of_stamped s None = refl
+of_stamped s (Some t) = refl
+
+does_by : (files : Files) (reigns : List Reign) (row : List PartPlace) (n : ℕ) (o : Option Entry) (found : Option Transaction) (st : Option Stamp) → st ≡ stamp_at n reigns
+    → ((part : ℕ → Option Part) → AreParts (InFiles files) n row part → (stamp : Stamp) → entry_among part stamp REGIONS ≡ option_map (stamped stamp) found)
+    → IsIn files reigns row n o → option_map transaction_value found ≡ option_map (λ (e : Entry). e.transaction) o
+does_by files reigns row n o found None is all at = absurd (some_there files reigns row n o (no_stamp files reigns row n o is at) at)
+does_by files reigns row n o found (Some s) is all at = of_stamped s found ∙ ap (option_map (λ (e : Entry). e.transaction)) (is_entry files reigns row n o s found is all at)
+
+-- what is read of a row is what the entry there does, whatever its stamp
+pub does_so : (files : Files) (reigns : List Reign) (row : List PartPlace) (n : ℕ) (o : Option Entry) (found : Option Transaction)
+    → ((part : ℕ → Option Part) → AreParts (InFiles files) n row part → (stamp : Stamp) → entry_among part stamp REGIONS ≡ option_map (stamped stamp) found)
+    → IsIn files reigns row n o → option_map transaction_value found ≡ option_map (λ (e : Entry). e.transaction) o
+does_so files reigns row n o found all at = does_by files reigns row n o found (stamp_at n reigns) refl all at
+
+-- where nothing is read of a row there is no entry
+pub none_so : (files : Files) (reigns : List Reign) (row : List PartPlace) (n : ℕ) (o : Option Entry) (found : Option Transaction) → found ≡ None
+    → ((part : ℕ → Option Part) → AreParts (InFiles files) n row part → (stamp : Stamp) → entry_among part stamp REGIONS ≡ option_map (stamped stamp) found)
+    → IsIn files reigns row n o → ⊥
+none_so files reigns row n o found none all at =
+    let gone : None ≡ Some at.e.transaction = ap (option_map transaction_value) (sym none) ∙ does_so files reigns row n o found all at ∙ ap (option_map (λ (e : Entry). e.transaction)) at.some in
+    cc

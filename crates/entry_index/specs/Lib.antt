@@ -15,3 +15,4 @@ pub mod Thinned
 pub mod Found
 pub mod Among
 pub mod Cursors
+pub mod Rows

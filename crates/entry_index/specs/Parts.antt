@@ -2,7 +2,7 @@
 use Rattle.std.specs.Prelude.{◌≡◌, ℕ, ◌≤◌, ◌<◌, ◌==◌, if◌then◌else◌, List, length, get_or, Option, Some, None}
 use Rattle.global_defs.specs.declared.limits.TheConstants.{MOST_GENERATIONS}
 use Rattle.disk_defs.specs.Disk.{Files}
-use Rattle.journal_defs.specs.Journal.{JournalRecord, Pini, Epoch, Pblk, Tcom, Part}
+use Rattle.journal_defs.specs.Journal.{JournalRecord, Pini, Epoch, Pblk, Tcom, Part, IsPart}
 use Rattle.journal_defs.specs.Numbers.{journal_file}
 use Rattle.gvn_model.specs.Entries.{origin_value}
 use Rattle.journal_defs.specs.Sequence.{Placed}
@@ -42,3 +42,7 @@ part_with n (Pblk b) = None
 
 abbrev pub read_value : ReadPart → Part
 read_value p = record { number = p.number; mask = p.mask; origin = origin_value p.origin; count = p.count; items = p.items }
+
+-- it has its form
+abbrev pub IsReadPart : ReadPart → Type 0
+IsReadPart p = IsPart (read_value p)

@@ -1,7 +1,7 @@
 //! A record by its place.
 ghost use Rattle.std.specs.Prelude.{◌≡◌, ◌<◌, ◌+◌, ◌^◌, ℕ, IfOk, IfSome, IsErrOf};
 ghost use Rattle.disk_defs.specs.Disk.{Reads, MayFailUncounted};
-ghost use Rattle.journal_defs.specs.Journal.{JournalRecord};
+ghost use Rattle.journal_defs.specs.Journal.{JournalRecord, IsInForm};
 ghost use Rattle.jnl_record.specs.Values.{record_value};
 ghost use Rattle.entry_index.specs.Places.{StandsAt, HasLength};
 
@@ -49,6 +49,8 @@ pub fn read_placed<D: Disk>(
     at: u64,
 ) -> Result<JnlRecord, JournalError>
     ensures found { IfOk result (λ r. IfSome (D.disk disk.old).content (λ files. StandsAt (files file) at (record_value r))) }
+    // whatever the disk tells
+    ensures form { IfOk result (λ r. IsInForm (record_value r)) }
     ensures one { IfOk result (λ r. IfSome (D.disk disk.old).content (λ files. (other : JournalRecord) → StandsAt (files file) at other → record_value r ≡ other)) }
     ensures outside { (offset : ℕ) → IsErrOf result (JournalError.NotARecord offset) → IfSome (D.disk disk.old).content (λ files. (r : JournalRecord) → StandsAt (files file) at r → ⊥) }
     ensures only_here { (offset : ℕ) → IsErrOf result (JournalError.NotARecord offset) → offset ≡ at }

@@ -1,15 +1,19 @@
 //! Entries read from the places of their parts.
 ghost use Rattle.std.specs.Prelude.{◌≡◌, ◌≤◌, ◌<◌, ℕ, List, [], ◌∷◌, ◌++◌, map, length, Option, get_or, None, IfOk, OnOk, IfSome, IsErrOf};
+ghost use Rattle.std.specs.List.{AllByRecursion};
 ghost use Rattle.std.specs.Option.{option_map};
 ghost use Rattle.disk_defs.specs.Disk.{Reads, MayFailUncounted};
 ghost use Rattle.global_defs.specs.Entry as defs;
+ghost use Rattle.global_defs.specs.Fields.{IsTransaction};
+ghost use Rattle.gvn_model.specs.Entries.{transaction_value};
 ghost use Rattle.journal_defs.specs.Journal as journal;
+ghost use Rattle.journal_defs.specs.Journal.{IsInForm, IsPart};
 ghost use Rattle.journal_defs.specs.Sequence.{REGIONS, entry_among};
 ghost use Rattle.jnl_record.specs.Values.{record_value};
 ghost use Rattle.mupip_recover.specs.Parts.{part_value};
 ghost use Rattle.mupip_recover.specs.Table.{part_in_column};
 ghost use Rattle.mupip_recover.specs.Entries.{stamped};
-ghost use Rattle.entry_index.specs.Parts.{InFiles, NOWHERE, IsPartAt, AreParts, part_with, read_value};
+ghost use Rattle.entry_index.specs.Parts.{InFiles, NOWHERE, IsPartAt, AreParts, part_with, read_value, IsReadPart};
 
 use crate::error::{IndexError, in_file};
 use crate::place::PartPlace;
@@ -55,7 +59,8 @@ impl ReadPart {
 
 /// The part that a record is, where it has this number.
 fn part_of(what: JnlRecord, number: u64) -> Option<ReadPart>
-    ensures { option_map read_value result ≡ part_with number (record_value what) }
+    ensures found { option_map read_value result ≡ part_with number (record_value what) }
+    ensures form { IsInForm (record_value what) → IfSome result IsReadPart }
 {
     match what {
         JnlRecord::Tcom {
@@ -91,6 +96,7 @@ fn read_part<D: Disk>(
 ) -> Result<Option<ReadPart>, IndexError>
     requires { region < MOST_REGIONS }
     ensures found { IfOk result (λ found. IfSome (D.disk disk.old).content (λ files. (x : Option journal.Part) → IsPartAt (InFiles files) region number place x → option_map read_value found ≡ x)) }
+    ensures form { IfOk result (λ found. IfSome found IsReadPart) }
     ensures outside { (file offset : ℕ) → IsErrOf result (IndexError.NotAFile file offset) → IfSome (D.disk disk.old).content (λ files. (x : Option journal.Part) → IsPartAt (InFiles files) region number place x → ⊥) }
     ensures reads { Reads (D.disk disk.old) (D.disk disk.new) }
     ensures faults { MayFailUncounted (D.disk disk.old).faults (D.disk disk.new).faults (IsErrOf result IndexError.Failed) }
@@ -134,6 +140,7 @@ fn read_parts<D: Disk>(
     requires { length row.now ≤ MOST_REGIONS }
     ensures read { IfOk result (λ made. IfSome (D.disk disk.old).content (λ files. (part : ℕ → Option journal.Part) → AreParts (InFiles files) number row.now part
         → (r : ℕ) → get_or (map (option_map read_value) made.items) r None ≡ part r)) }
+    ensures forms { IfOk result (λ made. AllByRecursion (λ found. IfSome found IsReadPart) made.items) }
     ensures outside { (file offset : ℕ) → IsErrOf result (IndexError.NotAFile file offset) → IfSome (D.disk disk.old).content (λ files. (part : ℕ → Option journal.Part) → AreParts (InFiles files) number row.now part → ⊥) }
     ensures reads { Reads (D.disk disk.old) (D.disk disk.new) }
     ensures faults { MayFailUncounted (D.disk disk.old).faults (D.disk disk.new).faults (IsErrOf result IndexError.Failed) }
@@ -186,6 +193,8 @@ pub fn read_transaction<D: Disk>(
     requires { length row.now ≤ MOST_REGIONS }
     ensures found { IfOk result (λ found. IfSome (D.disk disk.old).content (λ files. (part : ℕ → Option journal.Part) → AreParts (InFiles files) number row.now part
         → (stamp : defs.Stamp) → entry_among part stamp REGIONS ≡ option_map (stamped stamp) found)) }
+    // whatever the disk tells
+    ensures form { IfOk result (λ found. IfSome found (λ t. IsTransaction (transaction_value t))) }
     ensures outside { (file offset : ℕ) → IsErrOf result (IndexError.NotAFile file offset) → IfSome (D.disk disk.old).content (λ files. (part : ℕ → Option journal.Part) → AreParts (InFiles files) number row.now part → ⊥) }
     ensures reads { Reads (D.disk disk.old) (D.disk disk.new) }
     ensures faults { MayFailUncounted (D.disk disk.old).faults (D.disk disk.new).faults (IsErrOf result IndexError.Failed) }

@@ -34,7 +34,7 @@ fn write_bytes<D: Disk>(rt: &impl Abort, disk: &mut D, file: u32, bytes: &[u8]) 
 }
 
 /// Both journals.
-fn written(rt: &impl Abort, alloc: Global) -> MemDisk {
+pub(crate) fn written(rt: &impl Abort, alloc: Global) -> MemDisk {
     let mut disk = MemDisk::new(alloc).expect(rt, "memory");
     write_bytes(rt, &mut disk, 24, FIRST);
     write_bytes(rt, &mut disk, 32, SECOND);

@@ -28,7 +28,7 @@ returns-in-Some-clause-found g c =
     let file = c.journal_file-file.result in
     let least : 1 ≤ a.place.generation = omega arith in
     let told = option_map read_value (Some c.in-Some.found) in
-    let value : told ≡ part_with a.number (record_value c.in-Ok.what) = ap (option_map read_value) (sym c.in-Some.is) ∙ c.part_of.ensures in
+    let value : told ≡ part_with a.number (record_value c.in-Ok.what) = ap (option_map read_value) (sym c.in-Some.is) ∙ c.part_of.ensures.found in
     weaker_told (g.D.Disk.disk a.disk.now).content (λ files. (other : JournalRecord) → StandsAt (files file) a.place.offset other → record_value c.in-Ok.what ≡ other)
     (λ files. (x : Option Part) → IsPartAt (InFiles files) a.region a.number a.place x → told ≡ x) c.in-Ok.ensures.one
     (λ files one x is. value ∙ is_part files a.region a.number a.place x (record_value c.in-Ok.what) least
@@ -39,7 +39,7 @@ returns-in-None-clause-outside g c file offset failed =
     let a = c.args in
     let at = c.journal_file-file.result in
     let least : 1 ≤ a.place.generation = omega arith in
-    let none : None ≡ part_with a.number (record_value c.in-Ok.what) = ap (option_map read_value) (sym c.in-None.is) ∙ c.part_of.ensures in
+    let none : None ≡ part_with a.number (record_value c.in-Ok.what) = ap (option_map read_value) (sym c.in-None.is) ∙ c.part_of.ensures.found in
     weaker_told (g.D.Disk.disk a.disk.now).content (λ files. (other : JournalRecord) → StandsAt (files at) a.place.offset other → record_value c.in-Ok.what ≡ other)
     (λ files. (x : Option Part) → IsPartAt (InFiles files) a.region a.number a.place x → ⊥) c.in-Ok.ensures.one
     (λ files one x is. no_part files a.region a.number a.place x (record_value c.in-Ok.what) least

@@ -1,11 +1,14 @@
-use Rattle.std.proofs.Common.{rules, ◌≡◌, ℕ, ◌+◌, ◌<◌, List, [], ◌∷◌, ◌++◌, length, map, get_or, Option, None, IfSome, IsErrOf, ◌∙◌, ap, arith, length-append}
+use Rattle.std.proofs.Common.{rules, ◌≡◌, ℕ, ◌+◌, ◌<◌, List, [], ◌∷◌, ◌++◌, length, map, get_or, Option, None, IfSome, IsErrOf, sym, ◌∙◌, ap, subst, arith, length-append}
 use Rattle.std.proofs.lemmas.List.{length-map, map-append}
+use Rattle.std.specs.List.{AllByRecursion}
 use Rattle.std.specs.Option.{option_map}
 use Rattle.disk_defs.proofs.Frames.{reads_more}
 use Rattle.disk_defs.proofs.Told.{told_at, weaker_told, both_weak}
 use Rattle.journal_defs.specs.Journal.{Part}
 use Rattle.entry_index.specs.declared.error.IndexError.TheVariants.{NotAFile}
-use Rattle.entry_index.specs.Parts.{InFiles, NOWHERE, IsPartAt, AreParts, read_value}
+use Rattle.entry_index.specs.Parts.{InFiles, NOWHERE, IsPartAt, AreParts, read_value, IsReadPart}
+use Rattle.entry_index.specs.declared.reading.ReadPart.{ReadPart}
+use Rattle.journal_laws.proofs.ImageSteps.{all_both}
 use Rattle.entry_index.proofs.ReadParts.{more_read, all_read}
 use Rattle.entry_index.proofs.reading.read_parts.Goals as goal
 
@@ -30,6 +33,7 @@ loop-region-preserved g c =
           l.invariant.read here (λ files before one part at r low.
           ap (λ (ms : List (Option Part)). get_or ms r None) more
           ∙ more_read part (map f l.made.items) (f found) None l.region (length-map l.made.items f ∙ l.invariant.many) (before part at) (one (part l.region) (at.each l.region (omega arith))) r low);
+      forms = subst (AllByRecursion (λ (o : Option ReadPart). IfSome o IsReadPart)) (sym made) (all_both (λ (o : Option ReadPart). IfSome o IsReadPart) l.made.items (found ∷ []) l.invariant.forms (c.in_ok-found.ensures.form, tt));
       reads = reads_more (view a.disk.now) (view l.disk) (view c.read_part.new.disk) (g.met.D.Disk.lawful a.disk.now) l.invariant.reads c.read_part.ensures.reads;
       faults = omega (arith, l.invariant.faults, c.read_part.ensures.faults.later);
     }

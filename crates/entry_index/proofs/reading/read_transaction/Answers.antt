@@ -7,6 +7,7 @@ use Rattle.journal_defs.specs.Sequence.{REGIONS, entry_among}
 use Rattle.mupip_recover.specs.Entries.{stamped}
 use Rattle.entry_index.specs.Parts.{InFiles, AreParts, read_value}
 use Rattle.entry_index.proofs.ReadParts.{from_table}
+use Rattle.entry_index.proofs.Formed.{formed_found}
 use Rattle.entry_index.proofs.reading.read_transaction.Goals as goal
 
 pub returns-clause-found : goal.returns-clause-found
@@ -17,3 +18,7 @@ returns-clause-found g c =
     (λ files. (part : ℕ → Option Part) → AreParts (InFiles files) a.number a.row.now part → (stamp : Stamp) → entry_among part stamp REGIONS ≡ option_map (stamped stamp) c.in_ok-found.found)
     c.in_ok-parts.ensures.read
     (λ files read part at. from_table c.in_ok-table.table ms part c.in_ok-found.found (c.in_ok-table.ensures ∙ ap (map (option_map read_value)) c.deref.ensures.value) (read part at) c.in_ok-found.ensures)
+
+pub returns-clause-form : goal.returns-clause-form
+returns-clause-form g c =
+    formed_found c.in_ok-table.table c.in_ok-parts.parts.items c.in_ok-found.found (c.in_ok-table.ensures ∙ ap (map (option_map read_value)) c.deref.ensures.value) c.in_ok-parts.ensures.forms c.in_ok-found.ensures
