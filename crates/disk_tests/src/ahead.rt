@@ -1,125 +1,146 @@
-// Reads a piece at a time, against the disk's own.
+// Reads a piece at a time: the bytes that were written, by few calls of the disk.
 use crate::rows::holds;
 use read_ahead::ReadAhead;
 use repl_disk::{Disk, Failed, MemDisk};
 use std::alloc::Global;
 use std::process::Abort;
 
-/// A file that is three pieces long, the last of them short.
-const LONG: u64 = 150_000;
+/// How many bytes are written and read at once.
+const ROW: u32 = 100;
 
-/// A file of one piece.
-const SHORT: u64 = 300;
+/// How many rows a long file has: three pieces, the last of them short.
+const LONG: u16 = 1500;
 
-/// How many bytes are read at once.
-const READ: u64 = 100;
+/// How many rows a file of one piece has.
+const SHORT: u16 = 3;
 
-/// Writes so many bytes on a file from a place on, by a number.
-fn fill<D: Disk>(rt: &impl Abort, disk: &mut D, file: u32, from: u64, many: u64, number: u64) {
-    for i in 0..many / READ {
-        let mut bytes = [0; READ as usize];
-        bytes.fill(((number + i) % 251) as u8);
-        disk.room(file, 1, READ).expect(rt, "memory");
-        let len = disk.len(file).expect(rt, "a length");
-        holds(rt, from + READ * i <= len, b"a place that isn't past the end");
-        disk.write_at(file, from + READ * i, &bytes)
-            .expect(rt, "a write");
+/// Makes room for a write and does it, where the place isn't past the end. Without memory it fails too.
+fn put(disk: &mut ReadAhead<MemDisk>, file: u32, at: u64, bytes: &[u8]) -> Result<bool, Failed> {
+    let Ok(()) = disk.room(file, 1, bytes.len() as u64) else {
+        return Err(Failed);
+    };
+    let end = disk.len(file)?;
+    if end < at {
+        return Ok(false);
+    }
+    disk.write_at(file, at, bytes)?;
+    Ok(true)
+}
+
+/// Whether these are the bytes at a place of a file, at most a row.
+fn has(disk: &mut ReadAhead<MemDisk>, file: u32, at: u32, bytes: &[u8]) -> Result<bool, Failed> {
+    let end = disk.len(file)?;
+    let at = u64::from(at);
+    if bytes.len() > ROW as usize || end < at + bytes.len() as u64 {
+        return Ok(false);
+    }
+    let mut buf = [0; ROW as usize];
+    let part = &mut buf[..bytes.len()];
+    disk.read_at(file, at, part)?;
+    Ok(&*part == bytes)
+}
+
+/// The row of a file that begins so far from its start, by a number.
+fn row(file: u32, at: u32, number: u32) -> [u8; ROW as usize] {
+    let mut bytes = [0; ROW as usize];
+    for (i, byte) in bytes.iter_mut().enumerate() {
+        *byte = ((u64::from(file) + u64::from(at) + u64::from(number) + i as u64) % 251) as u8;
+    }
+    bytes
+}
+
+/// Writes a row of a file.
+fn write_row(rt: &impl Abort, disk: &mut ReadAhead<MemDisk>, file: u32, at: u32, number: u32) {
+    let bytes = row(file, at, number);
+    let is_put = put(disk, file, u64::from(at), &bytes);
+    holds(rt, is_put == Ok(true), b"a row that is written");
+}
+
+/// Such a row is read whole, and from its middle on.
+fn is_row(rt: &impl Abort, disk: &mut ReadAhead<MemDisk>, file: u32, at: u32, number: u32) {
+    let bytes = row(file, at, number);
+    let is_whole = has(disk, file, at, &bytes);
+    holds(rt, is_whole == Ok(true), b"a row that is read");
+    let is_half = has(disk, file, at, &bytes[..50]);
+    holds(rt, is_half == Ok(true), b"the half of a row");
+}
+
+/// Writes so many rows of a file.
+fn fill(rt: &impl Abort, disk: &mut ReadAhead<MemDisk>, file: u32, rows: u16, number: u32) {
+    for i in 0..rows {
+        write_row(rt, disk, file, ROW * u32::from(i), number);
+    }
+}
+
+/// The file has these rows.
+fn is_filled(rt: &impl Abort, disk: &mut ReadAhead<MemDisk>, file: u32, rows: u16, number: u32) {
+    for i in 0..rows {
+        is_row(rt, disk, file, ROW * u32::from(i), number);
     }
 }
 
 /// A disk with two long files and twelve short ones.
-fn filled(rt: &impl Abort, alloc: Global) -> MemDisk {
-    let mut disk = MemDisk::new(alloc).expect(rt, "memory");
-    fill(rt, &mut disk, 1, 0, LONG, 1);
-    fill(rt, &mut disk, 2, 0, LONG, 2);
+fn filled(rt: &impl Abort, alloc: Global) -> ReadAhead<MemDisk> {
+    let disk = MemDisk::new(alloc).expect(rt, "memory");
+    let mut disk = ReadAhead::over(alloc, disk);
+    fill(rt, &mut disk, 1, LONG, 1);
+    fill(rt, &mut disk, 2, LONG, 2);
     for file in 3..15u32 {
-        fill(rt, &mut disk, file, 0, SHORT, u64::from(file));
+        fill(rt, &mut disk, file, SHORT, file);
     }
     disk
 }
 
-/// Reads at most so many bytes of a file at a place, those that it has.
-fn read<D: Disk>(disk: &mut D, file: u32, at: u64, buf: &mut [u8]) -> Result<usize, Failed> {
-    let left = disk.len(file)?.saturating_sub(at);
-    let many = left.min(buf.len() as u64) as usize;
-    if many == 0 {
-        return Ok(0);
-    }
-    disk.read_at(file, at, &mut buf[..many])?;
-    Ok(many)
-}
-
-/// Both disks read the same at a place.
-fn reads_same<A: Disk, B: Disk>(rt: &impl Abort, a: &mut A, b: &mut B, file: u32, at: u64) {
-    let mut ours = [1; READ as usize];
-    let mut theirs = [2; READ as usize];
-    let many = read(a, file, at, &mut ours).expect(rt, "a read");
-    let same = read(b, file, at, &mut theirs).expect(rt, "a read");
-    holds(rt, many == same, b"as many bytes");
-    holds(rt, ours[..many] == theirs[..many], b"the same bytes");
-}
-
-/// Both disks read the same everywhere on a file, up to its end.
-fn all_same<A: Disk, B: Disk>(rt: &impl Abort, a: &mut A, b: &mut B, file: u32, many: u64) {
-    for i in 0..many / READ + 2 {
-        reads_same(rt, a, b, file, (READ - 1) * i);
-    }
-}
-
 #[test]
-fn bytes_as_the_disk_reads_them(rt: HostRuntime) {
-    let alloc = rt.alloc();
-    let mut plain = filled(&rt, alloc);
-    let mut ahead = ReadAhead::over(alloc, filled(&rt, alloc));
-    all_same(&rt, &mut ahead, &mut plain, 1, LONG);
-    for round in 0..4u64 {
-        for file in 2..15u32 {
-            reads_same(&rt, &mut ahead, &mut plain, file, 70 * round);
+fn rows_of_more_files_than_pieces(rt: HostRuntime) {
+    let mut disk = filled(&rt, rt.alloc());
+    for _ in 0..3 {
+        for file in 3..15u32 {
+            is_filled(&rt, &mut disk, file, SHORT, file);
         }
+        is_row(&rt, &mut disk, 1, 65_500, 1);
     }
-    all_same(&rt, &mut ahead, &mut plain, 2, LONG);
+    is_filled(&rt, &mut disk, 1, LONG, 1);
+    is_filled(&rt, &mut disk, 2, LONG, 2);
+    let past = has(&mut disk, 1, 149_950, &row(1, 0, 0));
+    holds(&rt, past == Ok(false), b"the end of a file");
 }
 
 #[test]
-fn bytes_behind_writes(rt: HostRuntime) {
-    let alloc = rt.alloc();
-    let mut plain = filled(&rt, alloc);
-    let mut ahead = ReadAhead::over(alloc, filled(&rt, alloc));
-    for round in 0..5u64 {
-        reads_same(&rt, &mut ahead, &mut plain, 1, 1_000);
-        reads_same(&rt, &mut ahead, &mut plain, 3, 0);
-        fill(&rt, &mut ahead, 1, 900 + 50 * round, 300, 7 * round);
-        fill(&rt, &mut plain, 1, 900 + 50 * round, 300, 7 * round);
-        all_same(&rt, &mut ahead, &mut plain, 1, 3_000);
-        all_same(&rt, &mut ahead, &mut plain, 3, SHORT);
+fn rows_behind_writes(rt: HostRuntime) {
+    let mut disk = filled(&rt, rt.alloc());
+    for number in 10..15u32 {
+        is_row(&rt, &mut disk, 1, 0, 1);
+        is_row(&rt, &mut disk, 3, 0, 3);
+        write_row(&rt, &mut disk, 1, 300, number);
+        is_row(&rt, &mut disk, 1, 300, number);
+        is_row(&rt, &mut disk, 1, 200, 1);
+        is_row(&rt, &mut disk, 3, 100, 3);
     }
-    fill(&rt, &mut ahead, 3, SHORT, 200, 9);
-    fill(&rt, &mut plain, 3, SHORT, 200, 9);
-    all_same(&rt, &mut ahead, &mut plain, 3, SHORT + 200);
-    ahead.crash(0);
-    plain.crash(0);
-    all_same(&rt, &mut ahead, &mut plain, 1, 3_000);
-    all_same(&rt, &mut ahead, &mut plain, 3, SHORT);
+    write_row(&rt, &mut disk, 3, 300, 9);
+    is_row(&rt, &mut disk, 3, 300, 9);
+    disk.crash(0);
+    let none = has(&mut disk, 3, 0, &[3]);
+    holds(&rt, none == Ok(false), b"a crash that leaves nothing");
 }
 
-/// Whether a file of three pieces is read whole by this many calls of the disk.
-fn is_read_by(rt: &impl Abort, alloc: Global, calls: u64) -> bool {
+/// Whether all rows of a long file are read, each once, by so many calls of the disk.
+fn are_read_by(rt: &impl Abort, alloc: Global, calls: u64) -> bool {
     let mut disk = filled(rt, alloc);
     disk.fuse(calls);
-    let mut ahead = ReadAhead::over(alloc, disk);
-    let mut buf = [0; READ as usize];
-    for i in 0..LONG / READ {
-        if ahead.read_at(1, READ * i, &mut buf).is_err() {
-            holds(rt, ahead.faults() == 1, b"a fault");
-            return false;
-        }
+    let mut read = true;
+    for i in 0..LONG {
+        let at = ROW * u32::from(i);
+        read = read && has(&mut disk, 1, at, &row(1, at, 1)) == Ok(true);
     }
-    true
+    holds(rt, read == (disk.faults() == 0), b"a fault that is counted");
+    read
 }
 
+/// Each row asks for the length; three pieces are read, each by a length and a read.
 #[test]
 fn two_calls_a_piece(rt: HostRuntime) {
     let alloc = rt.alloc();
-    holds(&rt, is_read_by(&rt, alloc, 6), b"three pieces");
-    holds(&rt, !is_read_by(&rt, alloc, 5), b"two pieces and a half");
+    holds(&rt, are_read_by(&rt, alloc, 1506), b"three pieces");
+    holds(&rt, !are_read_by(&rt, alloc, 1505), b"a call too few");
 }
