@@ -132,10 +132,6 @@ impl Undo {
     pub fn imaged(&self) -> Result<Imaged, NoMemory>
         ensures { IfOk result (λ made. made ≡ map is_some self.now) }
     {
-        Ok(Imaged::of(marks_of(
-            self.alloc,
-            self.count,
-            &self.oldest,
-        )?))
+        Ok(Imaged::of(marks_of(self.alloc, self.count, &self.oldest)?))
     }
 }
