@@ -1,36 +1,32 @@
 //! Undoing what changed after an epoch.
 ghost use Rattle.std.specs.Prelude.{◌≡◌, ◌≤◌, ◌<◌, ◌+◌, ◌*◌, ℕ, length, map, max, replicate, is_some, Some, None, IfOk, OnOk, OnErr, IfSome};
+ghost use Rattle.std.specs.Ordering.{nat_cmp};
+ghost use Rattle.std.specs.BTreeMap.{get};
 ghost use Rattle.disk_defs.specs.Disk.{Reads, HasCause};
 ghost use Rattle.journal_defs.specs.Epochs.{Chosen, image_state, block_of};
-ghost use Rattle.before_image.specs.Undoing.{oldest_of, with_oldest, Undoes};
+ghost use Rattle.before_image.specs.Undoing.{images_below, oldest_of, with_oldest, Undoes};
 
 use crate::imaged::Imaged;
 use gvn_key::{Bytes, NoMemory};
 use repl_disk::{Disk, Failed};
 use std::alloc::Global;
+use std::collections::BTreeMap;
 use std::marker::Model;
 
 /// How many bytes a block has on the file.
 const BLOCK: u64 = global_defs::limits::BLOCK as u64;
 
-/// No image for each of so many blocks.
-fn no_images(alloc: Global, blocks: u32) -> Result<Vec<Option<Bytes>>, NoMemory>
-    ensures { IfOk result (λ made. made.items ≡ replicate blocks None) }
-{
-    let mut made = Vec::new(alloc);
-    for _block in 0..blocks {
-        made.push(None)?;
-    }
-    Ok(made)
-}
-
-/// A mark for each block, set where it has an image.
-fn marks_of(alloc: Global, oldest: &[Option<Bytes>]) -> Result<Vec<bool>, NoMemory>
-    ensures { IfOk result (λ made. made.items ≡ map is_some oldest.now) }
+/// A mark for each of so many blocks, set where it has an image.
+fn marks_of(
+    alloc: Global,
+    blocks: u32,
+    oldest: &BTreeMap<u32, Bytes>,
+) -> Result<Vec<bool>, NoMemory>
+    ensures { IfOk result (λ made. made.items ≡ map is_some (images_below blocks (get nat_cmp oldest.now))) }
 {
     let mut marks = Vec::new(alloc);
-    for image in oldest {
-        marks.push(image.is_some())?;
+    for block in 0..blocks {
+        marks.push(oldest.contains_key(&block))?;
     }
     Ok(marks)
 }
@@ -42,43 +38,48 @@ fn put_zeros(out: &mut [u8])
     out.fill(0);
 }
 
-/// The oldest image of each block below an epoch's `blocks`.
+/// The oldest image of each block below an epoch's `blocks`. Its memory goes by the images that there are.
 #[derive(Debug, Drop)]
 pub struct Undo {
     alloc: Global,
-    oldest: Vec<Option<Bytes>>,
+    /// How many blocks the epoch has.
+    count: u32,
+    oldest: BTreeMap<u32, Bytes>,
 }
 
 impl Model for Undo {
+    ghost use Rattle.std.specs.Prelude.{◌≡◌, ℕ, length, IfSome};
+    ghost use Rattle.std.specs.Ordering.{nat_cmp};
+    ghost use Rattle.std.specs.BTreeMap.{get};
     ghost use Rattle.std.specs.Coded.{coded_list, coded_option, coded_ℕ};
-    ghost use Rattle.before_image.specs.Undoing.{Oldest, AreBlocks};
+    ghost use Rattle.before_image.specs.Undoing.{Oldest, images_below};
 
     ghost Value = { Oldest };
 
     ghost coded = { coded_list (coded_option (coded_list coded_ℕ)) };
 
-    ghost view = { λ u. u.oldest.items };
+    ghost view = { λ u. images_below u.count (get nat_cmp u.oldest) };
 
-    ghost invariant = { λ u. AreBlocks u.oldest.items };
+    ghost invariant = { λ u. (b : ℕ) → IfSome (get nat_cmp u.oldest b) (λ image. length image ≡ 4096) };
 }
 
 impl Undo {
-    /// No image of so many blocks: what stands below an epoch that is the last record.
-    pub fn new(alloc: Global, blocks: u32) -> Result<Self, NoMemory>
-        ensures { IfOk result (λ made. made ≡ replicate blocks None) }
+    /// No image of so many blocks: what stands below an epoch that is the last record. It takes no memory yet.
+    pub fn new(alloc: Global, blocks: u32) -> Self
+        ensures { result ≡ replicate blocks None }
     {
-        let oldest = no_images(alloc, blocks)?;
-        Ok(Undo { alloc, oldest })
+        Undo {
+            alloc,
+            count: blocks,
+            oldest: BTreeMap::new(alloc),
+        }
     }
 
     /// Whether a block has an image.
     pub fn has_image(&self, block: u32) -> bool
         ensures { result ≡ is_some (oldest_of self.now block) }
     {
-        match self.oldest.get(block as usize) {
-            Some(image) => image.is_some(),
-            None => false,
-        }
+        block < self.count && self.oldest.contains_key(&block)
     }
 
     /// Takes an image, in journal order: it counts where its block has none yet.
@@ -87,12 +88,14 @@ impl Undo {
         ensures ok { OnOk result (self.new ≡ with_oldest self.old block image.now) }
         ensures err { OnErr result (self.new ≡ self.old) }
     {
-        let number = block as usize;
-        if number >= self.oldest.len() || self.has_image(block) {
+        if block >= self.count {
+            return Ok(());
+        }
+        if self.oldest.contains_key(&block) {
             return Ok(());
         }
         let image = Bytes::of(self.alloc, image)?;
-        self.oldest[number] = Some(image);
+        self.oldest.insert(block, image)?;
         Ok(())
     }
 
@@ -112,12 +115,11 @@ impl Undo {
         ensures reads { Reads (D.disk disk.old) (D.disk disk.new) }
         ensures cause { HasCause (D.disk disk.old).faults (D.disk disk.new).faults result }
     {
-        let number = block as usize;
-        if number >= self.oldest.len() {
+        if block >= self.count {
             put_zeros(out);
             return Ok(());
         }
-        match &self.oldest[number] {
+        match self.oldest.get(&block) {
             Some(image) => {
                 out.copy_from_slice(image.as_slice());
                 Ok(())
@@ -126,10 +128,10 @@ impl Undo {
         }
     }
 
-    /// Which blocks have an image.
+    /// Which blocks have an image. The marks take memory for all blocks, so it's for after they were read.
     pub fn imaged(&self) -> Result<Imaged, NoMemory>
         ensures { IfOk result (λ made. made ≡ map is_some self.now) }
     {
-        Ok(Imaged::of(marks_of(self.alloc, &self.oldest)?))
+        Ok(Imaged::of(marks_of(self.alloc, self.count, &self.oldest)?))
     }
 }

@@ -40,7 +40,7 @@ pub(crate) fn undo_of(alloc: Global, blocks: u32, behind: &[PlacedRecord]) -> Re
     requires { AreFormed (map placed_value behind.now) }
     ensures { IfOk result (λ made. (number : ℕ) → Undoes made (epoch_at number blocks behind.now)) }
 {
-    let mut undo = Undo::new(alloc, blocks)?;
+    let mut undo = Undo::new(alloc, blocks);
     for placed in behind {
         take_record(&mut undo, &placed.what)?;
     }

@@ -292,6 +292,22 @@ fn opened_with_an_update<D: Disk>(rt: &impl Abort, alloc: Global, disk: &mut D) 
     assert!(rt; is_as_before(rt, alloc, &before));
 }
 
+/// An epoch whose number of blocks was damaged to a large one is answered by the first block that the file doesn't have, and takes
+/// no memory for the others.
+fn refused_by_the_file<D: Disk>(rt: &impl Abort, alloc: Global, disk: &mut D) {
+    let (_, blocks) = at_epoch(rt, alloc, disk);
+    let opened = open(alloc, disk, 1 << 31, &[]);
+    let offset = 4096 * u64::from(blocks);
+    let is_refused = matches!(opened, Err(RegionError::NotAFile { file: FILE, offset: at }) if at == offset);
+    assert!(rt; is_refused);
+}
+
+#[test]
+fn a_damaged_number_of_blocks(rt: HostRuntime) {
+    let mut disk = MemDisk::new(rt.alloc()).expect(&rt, "memory");
+    refused_by_the_file(&rt, rt.alloc(), &mut disk);
+}
+
 #[test]
 fn a_region_with_an_update_behind_its_epoch(rt: HostRuntime) {
     let mut disk = MemDisk::new(rt.alloc()).expect(&rt, "memory");

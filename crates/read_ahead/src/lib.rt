@@ -1,0 +1,8 @@
+//! A disk that is read a piece at a time.
+#![tactic(auto)]
+
+mod ahead;
+mod piece;
+mod pieces;
+
+pub use ahead::ReadAhead;
