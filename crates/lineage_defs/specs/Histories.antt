@@ -1,5 +1,6 @@
 -- Reigns and what they tell of a sequence (GT.M: the history records of the instance file, from which the resync point is found).
-use Rattle.std.specs.Prelude.{◌≡◌, ◌≢◌, ◌⊎◌, ℕ, suc, ◌<◌, ◌≤◌, List, [], ◌∷◌, length, slice_get, Some}
+use Rattle.std.specs.Prelude.{◌≡◌, ◌≢◌, ◌⊎◌, ℕ, suc, ◌+◌, ◌<◌, ◌≤◌, nat_lt, List, [], ◌∷◌, length, filter, slice_get, Some}
+use Rattle.global_defs.specs.declared.limits.TheConstants.{MOST_REIGNS}
 use Rattle.global_defs.specs.Entry.{Stamp, Entry, Sequence, Reign}
 use Rattle.global_defs.specs.Prefix.{IsPrefix, History, stamp_at}
 use Rattle.global_defs.specs.Rising.{StartsRise, begun_by}
@@ -34,6 +35,27 @@ pub record IsCommonOf (t : ℕ) (a b : History) : Type 0 where
 -- a history as it is told to another site: without the reigns that begin past its length
 abbrev pub told : History → History
 told h = record { length = h.length; reigns = begun_by h.length h.reigns }
+
+-- it has no more reigns to tell than a site may tell another one
+abbrev pub TellsFew : History → Type 0
+TellsFew h = length (told h).reigns ≤ MOST_REIGNS
+
+-- Their history goes on from the whole of mine, which can be told.
+pub record IsMatched (theirs mine : History) : Type 0 where
+  pub few : TellsFew mine
+  pub whole : IsCommonOf mine.length theirs mine
+
+-- They share fewer entries than mine has, which can be told, and the next one has that number.
+pub record IsParted (n : ℕ) (theirs mine : History) : Type 0 where
+  pub few : TellsFew mine
+  pub shared : ℕ
+  pub common : IsCommonOf shared theirs mine
+  pub fewer : shared < mine.length
+  pub next : n ≡ shared + 1
+
+-- the reigns that begin past number m, up to n
+abbrev pub begun_within : (m n : ℕ) → List Reign → List Reign
+begun_within m n rs = filter (λ r. nat_lt m r.start) (begun_by n rs)
 
 -- the longest sequence with which both begin
 pub record IsLongestCommon (shared xs ys : Sequence) : Type 0 where

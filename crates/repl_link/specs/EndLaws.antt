@@ -1,6 +1,6 @@
 -- What always holds of the ends of a link in memory.
-use Rattle.std.specs.Prelude.{◌≡◌, ℕ, Bool, true, false, IsTrue, List, [], ◌∷◌, ◌++◌, if◌then◌else◌, refl}
-use Rattle.std.specs.Prelude.{◌≤◌, nat_lt}
+use Rattle.std.specs.Prelude.{◌≡◌, ℕ, ◌+◌, Bool, true, false, IsTrue, List, [], ◌∷◌, ◌++◌, if◌then◌else◌, refl}
+use Rattle.std.specs.Prelude.{◌≤◌, nat_lt, Option, Some, None, option_map}
 use native.Mathlib.Omega.{arith}
 use Rattle.std.proofs.lemmas.Bool.{ltb-false}
 use Rattle.repl_link.specs.Items.{Symbol, Byte, End, bytes_of, has_end, symbol_of, code_of}
@@ -29,3 +29,8 @@ code_of_test n false is h = let high = ltb-false n 256 is in omega (arith, high,
 -- the number that stands for a symbol is the one that it was told by
 pub code_of_symbol : (n : ℕ) → n ≤ 256 → code_of (symbol_of n) ≡ n
 code_of_symbol n h = code_of_test n (nat_lt n 256) refl h
+
+-- what has no order has nothing left before a cut
+pub none_left : (moved : ℕ) (left : Option ℕ) → option_map (λ most. most + moved) left ≡ None → left ≡ None
+none_left moved None none = refl
+none_left moved (Some most) none = cc

@@ -1,5 +1,5 @@
 // The end of a link in memory that receives.
-ghost use Rattle.std.specs.Prelude.{◌≡◌, ◌<◌, ◌≤◌, ◌++◌, [], length, take, false, IsTrue};
+ghost use Rattle.std.specs.Prelude.{◌≡◌, ◌<◌, ◌≤◌, ◌++◌, [], length, take, false, IsTrue, None};
 ghost use mathlib.Core.List.{IsPrefix as BeginsWith};
 ghost use Rattle.rtrb.specs.Ring.{received as items_received, known_items, SameConsumer};
 ghost use Rattle.repl_link.specs.Items.{has_end, EndsLast, Drained};
@@ -30,6 +30,7 @@ pub struct MemRx {
     ghost ends: { has_end (items_received ring) ≡ ended },
     ghost places: { length items.items ≡ 4096 },
     ghost over: { IsTrue closed → IsTrue ended },
+    ghost ordered: { left ≡ None → cuts ≡ 0 },
 }
 
 // Pops as many items as there are, and so many at most.
@@ -127,7 +128,7 @@ impl LinkRx for MemRx {
 
     ghost use Rattle.std.specs.Prelude.{refl};
     ghost use Rattle.rtrb.specs.Ring.{received as items_received, known_items};
-    ghost use Rattle.repl_link.specs.EndLaws.{all_was_read};
+    ghost use Rattle.repl_link.specs.EndLaws.{all_was_read, none_left};
     ghost use Rattle.repl_link.specs.MemEnds.{rx_line, mem_receiving};
 
     ghost line = { λ r. rx_line r };
@@ -137,6 +138,8 @@ impl LinkRx for MemRx {
     ghost shows = { λ r told. refl };
 
     ghost over = { λ r told closed. all_was_read (items_received r.ring) (known_items r.ring) r.ended r.ends (r.over closed) };
+
+    ghost ordered = { λ r told none. r.ordered (none_left _ r.left none) };
 
     fn receive(&mut self, buffer: &mut [u8]) -> Result<Received, Cut> {
         if self.left == Some(0) {

@@ -1,5 +1,5 @@
 // The end of a link in memory that sends.
-ghost use Rattle.std.specs.Prelude.{◌≡◌, ◌<◌, ◌≤◌, length, false};
+ghost use Rattle.std.specs.Prelude.{◌≡◌, ◌<◌, ◌≤◌, length, false, None};
 ghost use Rattle.rtrb.specs.Ring.{sent as items_sent, known_free, producer_capacity, SameProducer};
 ghost use Rattle.repl_link.specs.Items.{has_end};
 
@@ -26,6 +26,7 @@ pub struct MemTx {
     ghost session_in_range: { session < 8 },
     ghost ends: { has_end (items_sent ring) ≡ finished },
     ghost room: { finished ≡ false → 0 < known_free ring },
+    ghost ordered: { left ≡ None → cuts ≡ 0 },
 }
 
 impl MemTx {
@@ -53,7 +54,7 @@ impl LinkTx for MemTx {
 
     ghost use Rattle.std.specs.Prelude.{◌-◌};
     ghost use Rattle.rtrb.specs.Ring.{known_free};
-    ghost use Rattle.repl_link.specs.EndLaws.{no_place_free};
+    ghost use Rattle.repl_link.specs.EndLaws.{no_place_free, none_left};
     ghost use Rattle.repl_link.specs.MemEnds.{tx_line, mem_sending};
 
     ghost line = { λ t. tx_line t };
@@ -61,6 +62,8 @@ impl LinkTx for MemTx {
     ghost sending = { λ t. mem_sending t };
 
     ghost spent = { λ t told finished. no_place_free t.finished (known_free t.ring - 1) finished };
+
+    ghost ordered = { λ t told none. t.ordered (none_left _ t.left none) };
 
     fn send(&mut self, bytes: &[u8]) -> Result<usize, Cut> {
         if self.left == Some(0) {

@@ -36,7 +36,7 @@ pub trait LinkTx: Drop {
     /// What the two ends of one direction have in common.
     type Line;
 
-    ghost use Rattle.std.specs.Prelude.{◌≡◌, ◌+◌, ◌<◌, ◌≤◌, ◌++◌, length, take, false, IsTrue, IsErr, IfOk, OnOk, OnErr};
+    ghost use Rattle.std.specs.Prelude.{◌≡◌, ◌+◌, ◌<◌, ◌≤◌, ◌++◌, length, take, false, None, IsTrue, IsErr, IfOk, OnOk, OnErr};
     ghost use Rattle.std.specs.Result.{result_unwrap_or};
     ghost use Rattle.wire_defs.specs.Links.{Sending, SameSending, SendingLooked, IsReached, IsWithin, counted, patience_for};
 
@@ -84,6 +84,9 @@ pub trait LinkTx: Drop {
 
     // An end that has ended the sending knows no free place.
     ghost spent: { (t : Self) → IsTrue (sending t).told → IsTrue (sending t).finished → (sending t).free ≡ 0 };
+
+    // An end that tells its bytes was never found cut without an order.
+    ghost ordered: { (t : Self) → IsTrue (sending t).told → (sending t).order ≡ None → (sending t).cuts ≡ 0 };
 }
 
 /// The end of a direction that receives.
@@ -91,7 +94,7 @@ pub trait LinkRx: Drop {
     /// What the two ends of one direction have in common.
     type Line;
 
-    ghost use Rattle.std.specs.Prelude.{◌≡◌, ◌+◌, ◌<◌, ◌≤◌, ◌++◌, ◌||◌, [], length, take, false, IsTrue, IsErr, OnOk, OnErr};
+    ghost use Rattle.std.specs.Prelude.{◌≡◌, ◌+◌, ◌<◌, ◌≤◌, ◌++◌, ◌||◌, [], length, take, false, None, IsTrue, IsErr, OnOk, OnErr};
     ghost use Rattle.global_defs.specs.Prefix.{IsPrefix};
     ghost use Rattle.wire_defs.specs.Links.{Receiving, SameReceiving, IsReached, IsWithin, counted};
     ghost use Rattle.repl_link.specs.Answers.{bytes_got, IfBytes, OnNotYet, OnEnded, is_ended, patience_cost};
@@ -143,6 +146,9 @@ pub trait LinkRx: Drop {
 
     ghost over: { (r : Self) → IsTrue (receiving r).told → IsTrue (receiving r).closed →
         IsTrue (receiving r).ended × ((receiving r).unread ≡ []) };
+
+    // An end that tells its bytes was never found cut without an order.
+    ghost ordered: { (r : Self) → IsTrue (receiving r).told → (receiving r).order ≡ None → (receiving r).cuts ≡ 0 };
 }
 
 /// The four ends of a connection. The primary has the two that are called `up`: `up_tx` carries bytes to `down_rx`, and

@@ -33,6 +33,13 @@ pub trait EntrySink {
     /// Whether the site goes on: no call of its disk has failed.
     ghost going: { Self → Bool };
 
+    /// What this site may have become by calls that apply entries.
+    ghost later: { Self → Self → Type 0 };
+
+    ghost later_same: { (a : Self) → later a a };
+
+    ghost later_still: { (a b c : Self) → later a b → later b c → later a c };
+
     /// Its length and its reigns.
     fn history(&self) -> &History
         ensures is { history_value result.now ≡ history_of (copy self.now) }
@@ -45,7 +52,8 @@ pub trait EntrySink {
         requires place { MayAdopt (history_of (copy self.old)) (reign_value reign.now) }
         ensures ok { OnOk result (copy self.new ≡ adopted (copy self.old) (reign_value reign.now)) }
         ensures going { OnOk result (IsTrue (going self.new)) }
-        ensures err { OnErr result (copy self.new ≡ copy self.old) };
+        ensures err { OnErr result (copy self.new ≡ copy self.old) }
+        ensures later { later self.old self.new };
 
     /// Applies the next entry, which is the site's own from then on, and appends the remembered reign right before it. The entry isn't
     /// hardened.
@@ -66,14 +74,16 @@ pub trait EntrySink {
         ensures unchanged { IsErrOf result ApplyError.Full → (copy self.new ≡ copy self.old) × IsTrue (going self.new) }
         // where it goes on nothing has changed
         ensures other { OnOther result ((copy self.new ≡ copy self.old) ⊎ Takes (transaction_value transaction) (copy self.old) (copy self.new)) }
-        ensures stopped { OnOther result (((going self.new) ≡ false) ⊎ (copy self.new ≡ copy self.old)) };
+        ensures stopped { OnOther result (((going self.new) ≡ false) ⊎ (copy self.new ≡ copy self.old)) }
+        ensures later { later self.old self.new };
 
     /// Hardens all entries.
     fn harden(&mut self) -> Result<(), Self::Error>
         requires { IsTrue (going self.old) }
         ensures ok { OnOk result (copy self.new ≡ hardened (copy self.old)) }
         ensures going { OnOk result (IsTrue (going self.new)) }
-        ensures err { OnErr result (copy self.new ≡ copy self.old) };
+        ensures err { OnErr result (copy self.new ≡ copy self.old) }
+        ensures later { later self.old self.new };
 
     // Its surviving reigns are of their form.
     ghost formed: { (s : Self) → AllByRecursion IsReign (copy s).reigns };

@@ -47,6 +47,7 @@ fn adopt<S: EntrySink>(site: &mut S, reign: &Option<Reign>) -> Result<bool, Upda
     ensures adopted { IfOk result (λ b. IsTrue b → S.copy site.new ≡ told (S.copy site.old) (reign_of reign.now)) }
     ensures strange { IfOk result (λ b. b ≡ false → IsStrange (S.copy site.old) (reign_of reign.now) × (S.copy site.new ≡ S.copy site.old)) }
     ensures going { OnOk result (IsTrue (S.going site.new)) }
+    ensures later { S.later site.old site.new }
     ensures err { IfErr result (λ e. IsSites e × (S.copy site.new ≡ S.copy site.old)) }
 {
     match reign {
@@ -71,6 +72,7 @@ fn enter<S: EntrySink>(site: &mut S, arrived: Arrived) -> Result<Applied, Update
     requires under { (stamp : defs.Stamp) × (stamp_at (next_of (S.copy site.old)) (reigns_next (S.copy site.old)) ≡ Some stamp) }
     ensures one { IfOk result (λ a. (a ≡ Applied.One arrived.number) × ((m : Copy) × Takes (transaction_value arrived.transaction) (S.copy site.old) m × (S.copy site.new ≡ hardened m))) }
     ensures going { OnOk result (IsTrue (S.going site.new)) }
+    ensures later { S.later site.old site.new }
     ensures on { IfErr result (λ e. IsSites e ⊎ IsTrue (S.going site.new)) }
     ensures err { IfErr result (λ e. Refuses e (arrival_value arrived) (S.copy site.old) (S.copy site.new)) }
 {
@@ -97,6 +99,7 @@ fn follow<S: EntrySink>(site: &mut S, arrived: Arrived) -> Result<Applied, Updat
     requires form { IsArrival (arrival_value arrived) }
     ensures after { IfOk result (λ a. Did a (arrival_value arrived) (S.copy site.old) (S.copy site.new)) }
     ensures going { OnOk result (IsTrue (S.going site.new)) }
+    ensures later { S.later site.old site.new }
     ensures on { IfErr result (λ e. IsSites e ⊎ IsTrue (S.going site.new)) }
     ensures failed { IfErr result (λ e. FailedAt e (arrival_value arrived) (S.copy site.old) (S.copy site.new)) }
 {
@@ -125,6 +128,7 @@ pub fn apply_next<S: EntrySink>(
     ensures same { SameOut pool.old pool.new }
     ensures after { IfOk result (λ a. After a (known pool.old) (taken pool.old) (taken pool.new) (S.copy site.old) (S.copy site.new)) }
     ensures going { OnOk result (IsTrue (S.going site.new)) }
+    ensures later { S.later site.old site.new }
     // a bad frame leaves a site that goes on
     ensures on { IfErr result (λ e. IsSites e ⊎ IsTrue (S.going site.new)) }
     ensures failed { IfErr result (λ e. Failed e (known pool.old) (taken pool.old) (taken pool.new) (S.copy site.old) (S.copy site.new)) }
