@@ -1,13 +1,13 @@
 mod Fronts
 mod Places
-mod BegunReigns
+pub mod BegunReigns
 mod HistoryLaws
 mod Facts
 mod Moves
 mod Followers
 mod Steps
 mod Hardened
-mod SharedFronts
+pub mod SharedFronts
 mod Crashing
 mod Resting
 mod SingleSteps

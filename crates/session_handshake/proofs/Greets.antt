@@ -1,12 +1,12 @@
 -- A connection from its making to its answer, or to its giving back.
-use Rattle.std.proofs.Common.{◌≡◌, ◌⊎◌, inl, inr, ℕ, ◌+◌, ◌^◌, ◌<◌, ◌≤◌, Bool, true, false, IsTrue, nat_lt, Option, Result, Ok, Err, IfErr, OnOk, List, [], ◌∷◌, ◌++◌, map, refl, sym, ap, subst, ◌∙◌, arith, append_assoc}
+use Rattle.std.proofs.Common.{◌≡◌, ◌⊎◌, inl, inr, ℕ, ◌+◌, ◌^◌, ◌<◌, ◌≤◌, Bool, true, false, IsTrue, nat_lt, Option, None, Result, Ok, Err, IfErr, OnOk, List, [], ◌∷◌, ◌++◌, map, refl, sym, ap, subst, ◌∙◌, arith, append_assoc}
 use Rattle.global_defs.specs.declared.limits.TheConstants.{NUMBERS_END}
 use Rattle.global_defs.specs.Entry.{Globals}
 use Rattle.global_defs.specs.Prefix as prefix
 use Rattle.global_defs.specs.Prefix.{IsPrefix}
 use Rattle.wire_defs.specs.Frames.{Frame, spelled_frame}
 use Rattle.wire_defs.specs.Links as links
-use Rattle.wire_defs.specs.Links.{Linking, Sending, Receiving, Past, KnowAll, SendingLooked, ReceivingLooked, IsNewDirection, ConnectionMade, CutsAdded, was_cut, past_of, all_cuts}
+use Rattle.wire_defs.specs.Links.{Linking, Sending, Receiving, Past, KnowAll, SendingLooked, ReceivingLooked, IsNewDirection, ConnectionMade, CutsAdded, was_cut, past_of, all_cuts, first_order}
 use Rattle.ship_defs.specs.Arrivals.{Arrival}
 use Rattle.ship_defs.specs.Hearing as ship
 use Rattle.ship_defs.specs.Hearing.{Purpose, Asks, Heard, IsOver, unbegun, IsBadFromPrimary, EndsFromPrimary}
@@ -66,6 +66,7 @@ is_open a b s v w u x same ut ur dt dr zero up down going =
       order = (ut.same.order ∙ (same.up_tx.order ∙ f.orders.0), dr.same.order ∙ (same.down_rx.order ∙ f.orders.1));
       uncut = omega (arith, e1, e2, e3, e4, zero);
       closed = (ur.closed ∙ up, dr.closed ∙ down);
+      no_order = (dt.same.order ∙ (same.down_tx.order ∙ t.orders.0), ur.same.order ∙ (same.up_rx.order ∙ t.orders.1));
       going = λ y. let z = going (x.made.told ∙ y) in (ut.finished ∙ z.0, omega (arith, ut.same.places, z.1), dt.finished ∙ z.2);
     }
 
@@ -157,8 +158,49 @@ awaits_any s put free shown w = record { begun = w.begun; fresh = w.fresh; rest 
 
 -- the ends are given back
 
-pub given_back : (from a b : Linking) (s : ℕ) (v : Views) → ConnectionMade from a s → CutsAdded a b s (cuts_of v) → b.past ≡ a.past ++ past_of_views s v ∷ [] → cuts_of v ≤ 1 → WereMade from b s (past_of_views s v ∷ [])
-given_back from a b s v made added past few = made_settled from a b s (past_of_views s v) made added past refl few
+-- an end that tells its bytes was never found cut without an order
+abbrev pub IsOrderedTx : Sending → Type 0
+IsOrderedTx t = IsTrue t.told → t.order ≡ None → t.cuts ≡ 0
+
+abbrev pub IsOrderedRx : Receiving → Type 0
+IsOrderedRx r = IsTrue r.told → r.order ≡ None → r.cuts ≡ 0
+
+abbrev pub AreOrdered : Views → Type 0
+AreOrdered v = IsOrderedTx v.up_tx × IsOrderedRx v.up_rx × IsOrderedTx v.down_tx × IsOrderedRx v.down_rx
+
+-- What ends of a connection of a session are like: they tell what links do, and one direction may have the session's first order.
+pub record HaveOrder (from : Linking) (s : ℕ) (v : Views) : Type 0 where
+  pub told_up : (v.up_tx.told ≡ from.told) × (v.down_rx.told ≡ from.told)
+  pub told_down : (v.down_tx.told ≡ from.told) × (v.up_rx.told ≡ from.told)
+  pub up : (v.up_tx.order ≡ first_order (from.orders s)) × (v.down_rx.order ≡ first_order (from.orders s))
+  pub down : (v.down_tx.order ≡ None) × (v.up_rx.order ≡ None)
+
+pub begun_order : (from a : Linking) (s : ℕ) (v w : Views) → IsBegun from a s v → SameEnds v w → HaveOrder from s w
+begun_order from a s v w x same = record {
+  told_up = (same.up_tx.told ∙ x.from_primary.told.0, same.down_rx.told ∙ x.from_primary.told.1);
+  told_down = (same.down_tx.told ∙ x.to_primary.told.0, same.up_rx.told ∙ x.to_primary.told.1);
+  up = (same.up_tx.order ∙ x.from_primary.orders.0, same.down_rx.order ∙ x.from_primary.orders.1);
+  down = (same.down_tx.order ∙ x.to_primary.orders.0, same.up_rx.order ∙ x.to_primary.orders.1);
+}
+
+pub open_order : (from a : Linking) (s : ℕ) (v w : Views) → IsOpen from a s v → SameEnds v w → HaveOrder from s w
+open_order from a s v w x same = record {
+  told_up = (same.up_tx.told ∙ x.told_tx.0, same.down_rx.told ∙ x.told_rx.1);
+  told_down = (same.down_tx.told ∙ x.told_tx.1, same.up_rx.told ∙ x.told_rx.0);
+  up = (same.up_tx.order ∙ x.order.0, same.down_rx.order ∙ x.order.1);
+  down = (same.down_tx.order ∙ x.no_order.0, same.up_rx.order ∙ x.no_order.1);
+}
+
+uncut_without : (from : Linking) (s : ℕ) (v : Views) → HaveOrder from s v → AreOrdered v → IsTrue from.told → from.orders s ≡ [] → cuts_of v ≡ 0
+uncut_without from s v h o t none =
+    let a = o.0 (h.told_up.0 ∙ t) (h.up.0 ∙ ap first_order none) in
+    let b = o.1 (h.told_down.1 ∙ t) h.down.1 in
+    let c = o.2 (h.told_down.0 ∙ t) h.down.0 in
+    let d = o.3 (h.told_up.1 ∙ t) (h.up.1 ∙ ap first_order none) in
+    omega (arith, a, b, c, d)
+
+pub given_back : (from a b : Linking) (s : ℕ) (v : Views) → ConnectionMade from a s → CutsAdded a b s (cuts_of v) → b.past ≡ a.past ++ past_of_views s v ∷ [] → cuts_of v ≤ 1 → HaveOrder from s v → AreOrdered v → WereMade from b s (past_of_views s v ∷ [])
+given_back from a b s v made added past few h o = made_settled from a b s (past_of_views s v) made added past refl few (uncut_without from s v h o)
 
 abbrev with_cuts : ℕ → Views → ℕ → Past
 with_cuts s v n = record {
@@ -175,7 +217,7 @@ pub given_finished : (from a b : Linking) (s : ℕ) (v : Views) (up : Sending) �
 given_finished from a b s v up is_open e added past =
     let same : past_of s up v.up_rx v.down_tx v.down_rx ≡ past_of_views s v = ap (with_cuts s v) e in
     let zero = is_open.uncut in
-    given_back from a b s v is_open.made (subst (λ (n : ℕ). CutsAdded a b s (n + v.up_rx.cuts + v.down_tx.cuts + v.down_rx.cuts)) e added) (past ∙ ap (λ (p : Past). a.past ++ p ∷ []) same) (omega (arith, zero))
+    made_settled from a b s (past_of_views s v) is_open.made (subst (λ (n : ℕ). CutsAdded a b s (n + v.up_rx.cuts + v.down_tx.cuts + v.down_rx.cuts)) e added) (past ∙ ap (λ (p : Past). a.past ++ p ∷ []) same) refl (omega (arith, zero)) (λ _ _. zero)
 
 pub not_cut : (s : ℕ) (v : Views) → cuts_of v ≡ 0 → was_cut (past_of_views s v) ≡ false
 not_cut s v zero = ap (λ (n : ℕ). nat_lt 0 n) zero

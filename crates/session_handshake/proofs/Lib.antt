@@ -8,3 +8,5 @@ pub mod Steps
 pub mod Turns
 pub mod Greets
 pub mod Sessions
+pub mod Among
+pub mod Carried

@@ -1,5 +1,5 @@
 -- A session's connections, each but the last of which was cut.
-use Rattle.std.proofs.Common.{◌≡◌, ◌↔◌, ℕ, ◌<◌, ◌≤◌, Bool, false, IsTrue, List, [], ◌∷◌, ◌++◌, count_by, Result, Ok, Err, sym, ap, subst, ◌∙◌, arith}
+use Rattle.std.proofs.Common.{◌≡◌, ◌↔◌, ℕ, ◌+◌, ◌<◌, ◌≤◌, Bool, false, IsTrue, List, [], ◌∷◌, ◌++◌, length, length-append, count_by, Result, Ok, Err, sym, ap, subst, ◌∙◌, arith}
 use Rattle.std.specs.List.{AllByRecursion}
 use Rattle.global_defs.specs.Prefix as prefix
 use Rattle.wire_defs.specs.Links.{Linking, Past, was_cut, past_since}
@@ -9,7 +9,7 @@ use Rattle.receiver_server.specs.Answers.{answer_frame}
 use Rattle.session_handshake.specs.declared.session.SessionError.{SessionError}
 use Rattle.session_handshake.specs.declared.session.SessionError.TheVariants.{LinkCut, BadFrame}
 use Rattle.session_handshake.specs.Connections.{WereMade, Met, IsAnsweredOver, IsBadOver}
-use Rattle.session_handshake.proofs.Made.{made_on, since_is, count_still}
+use Rattle.session_handshake.proofs.Made.{made_on, since_is, count_append, count_none, count_still}
 
 pub made_since : (a b : Linking) (s : ℕ) (over : List Past) → WereMade a b s over → WereMade a b s (past_since a b s)
 made_since a b s over w = subst (λ (l : List Past). WereMade a b s l) (sym (since_is a b s over w)) w
@@ -42,3 +42,28 @@ module _ (a m b : Linking) (s : ℕ) (over : List Past) (p : Past) (k : ℕ) (w 
 
 pub four_cut : (a b : Linking) (s : ℕ) (over : List Past) → WereMade a b s over → count_by was_cut over ≡ 4 → count_by was_cut (past_since a b s) ≡ 4
 four_cut a b s over w four = ap (λ (l : List Past). count_by was_cut l) (since_is a b s over w) ∙ four
+
+-- a session's connections by how many there are: each of the first ones was cut
+
+module _ (a m b : Linking) (s : ℕ) (over last : List Past) (w : WereMade a m s over) (x : WereMade m b s last) (each : length over ≡ count_by was_cut over) where
+  sizes_since : length (past_since a b s) + count_by was_cut last ≡ count_by was_cut (past_since a b s) + length last
+  sizes_since =
+      let is = since_is a b s (over ++ last) (made_on a m b s over last w x) in
+      let size = ap (λ (l : List Past). length l) is ∙ length-append over last in
+      let count = ap (λ (l : List Past). count_by was_cut l) is ∙ count_append over last in
+      omega (arith, size, count, each)
+
+  pub in_turn_since : length last ≤ 1 → length (past_since a b s) ≤ count_by was_cut (past_since a b s) + 1
+  in_turn_since one = let sizes = sizes_since in omega (arith, sizes, one)
+
+pub one_more_since : (a m b : Linking) (s : ℕ) (over : List Past) (p : Past) → WereMade a m s over → WereMade m b s (p ∷ []) → length over ≡ count_by was_cut over → was_cut p ≡ false
+    → length (past_since a b s) ≡ count_by was_cut (past_since a b s) + 1
+one_more_since a m b s over p w x each uncut =
+    let sizes = sizes_since a m b s over (p ∷ []) w x each in
+    let none = count_none (p ∷ []) (uncut, tt) in
+    omega (arith, sizes, none)
+
+pub as_many_since : (a b : Linking) (s : ℕ) (over : List Past) → WereMade a b s over → length over ≡ count_by was_cut over → length (past_since a b s) ≡ count_by was_cut (past_since a b s)
+as_many_since a b s over w each =
+    let is = since_is a b s over w in
+    ap (λ (l : List Past). length l) is ∙ (each ∙ sym (ap (λ (l : List Past). count_by was_cut l) is))

@@ -1,10 +1,11 @@
 -- A session's connections, and what came over them.
-use Rattle.std.specs.Prelude.{◌≡◌, ◌⊎◌, ℕ, ◌<◌, ◌≤◌, Bool, false, IsTrue, None, List, ◌∷◌, [], ◌++◌, count_by, fold, Result, Ok, Err}
+use Rattle.std.specs.Prelude.{◌≡◌, ◌⊎◌, ℕ, ◌<◌, ◌≤◌, Bool, false, IsTrue, None, List, ◌∷◌, [], ◌++◌, length, drop, count_by, fold, Result, Ok, Err}
 use Rattle.std.specs.List.{AllByRecursion}
 use Rattle.global_defs.specs.Entry.{Globals}
 use Rattle.global_defs.specs.Prefix as prefix
+use Rattle.global_defs.specs.Prefix.{IsPrefix}
 use Rattle.wire_defs.specs.Frames.{Frame}
-use Rattle.wire_defs.specs.Links.{Linking, Past, ConnectionMade, IsNewDirection, was_cut, counted, first_order, past_of}
+use Rattle.wire_defs.specs.Links.{Linking, Past, ConnectionMade, CutsAdded, IsNewDirection, was_cut, counted, first_order, past_of, past_since}
 use Rattle.ship_defs.specs.Hearing.{Purpose, Asks, Hearing, unbegun, IsBadFromPrimary, EndsFromPrimary}
 use Rattle.ship_defs.specs.Greeting.{IsBadToPrimary, GreetsWith}
 use Rattle.receiver_server.specs.declared.step.Handshake.{Handshake}
@@ -25,6 +26,32 @@ pub record WereMade (a b : Linking) (session : ℕ) (over : List Past) : Type 0 
   pub cuts : b.cuts session ≡ fold (λ n p. counted n p.cuts) (a.cuts session) over
   pub other_cuts : (s : ℕ) → (s ≡ session → ⊥) → b.cuts s ≡ a.cuts s
   pub other_orders : (s : ℕ) → (s ≡ session → ⊥) → b.orders s ≡ a.orders s
+  -- each connection used up the session's first order to cut, but one that was cut as it was made, which comes where links don't tell their bytes
+  pub orders : (used : ℕ) × (used ≤ length over) × (IsTrue a.told → used ≡ length over) × (b.orders session ≡ drop used (a.orders session))
+  -- where links tell their bytes a connection is cut by an order alone
+  pub ordered : IsTrue a.told → count_by was_cut over ≤ length (a.orders session)
+
+-- What two views of a linker tell of one session, whatever other sessions did meanwhile: these connections of its own were given back.
+pub record MadeAmong (a b : Linking) (session : ℕ) (over : List Past) : Type 0 where
+  pub told : b.told ≡ a.told
+  pub shown : b.shown ≡ a.shown
+  pub simulated : b.simulated ≡ a.simulated
+  pub grown : IsPrefix a.past b.past
+  pub since : past_since a b session ≡ over
+  pub once : AllByRecursion (λ p. p.cuts ≤ 1) over
+  pub cuts : b.cuts session ≡ fold (λ n p. counted n p.cuts) (a.cuts session) over
+  pub orders : (used : ℕ) × (used ≤ length over) × (IsTrue a.told → used ≡ length over) × (b.orders session ≡ drop used (a.orders session))
+  pub ordered : IsTrue a.told → count_by was_cut over ≤ length (a.orders session)
+
+-- A connection of a session was made before the first view, and used up an order then. It is given back between the views, and others did what they did.
+pub record GivenBack (a b c d : Linking) (session : ℕ) (p : Past) : Type 0 where
+  pub made : ConnectionMade a b session
+  pub meanwhile : MadeAmong b c session []
+  pub cuts : CutsAdded c d session p.cuts
+  pub past : d.past ≡ c.past ++ p ∷ []
+  pub own : p.session ≡ session
+  pub once : p.cuts ≤ 1
+  pub ordered : IsTrue a.told → a.orders session ≡ [] → p.cuts ≡ 0
 
 -- a secondary with that history before a connection's first byte, whatever its globals are
 abbrev pub asking : prefix.History → Globals → Hearing
@@ -58,6 +85,7 @@ pub record IsOpen (a b : Linking) (session : ℕ) (v : Views) : Type 0 where
   pub told_rx : (v.up_rx.told ≡ a.told) × (v.down_rx.told ≡ a.told)
   pub shown : (v.up_rx.shown ≡ a.shown) × (v.down_rx.shown ≡ a.shown)
   pub order : (v.up_tx.order ≡ first_order (a.orders session)) × (v.down_rx.order ≡ first_order (a.orders session))
+  pub no_order : (v.down_tx.order ≡ None) × (v.up_rx.order ≡ None)
   pub uncut : cuts_of v ≡ 0
   pub closed : (v.up_rx.closed ≡ false) × (v.down_rx.closed ≡ false)
   pub going : IsTrue a.told → (v.up_tx.finished ≡ false) × (0 < v.up_tx.places) × (v.down_tx.finished ≡ false)

@@ -1,5 +1,5 @@
 // A connection is begun.
-ghost use Rattle.std.specs.Prelude.{◌≡◌, ◌⊎◌, ◌<◌, ◌^◌, [], ◌∷◌, false, true, List, ℕ, IsTrue, IfOk, IfErr, OnOk, IsErrOf};
+ghost use Rattle.std.specs.Prelude.{◌≡◌, ◌⊎◌, ◌<◌, ◌≤◌, ◌^◌, [], ◌∷◌, length, false, true, List, ℕ, IsTrue, IfOk, IfErr, OnOk, IsErrOf};
 ghost use Rattle.std.specs.List.{AllByRecursion};
 ghost use Rattle.global_defs.specs.declared.limits.TheConstants.{NUMBERS_END};
 ghost use Rattle.global_defs.specs.Fields.{IsReign, IsSiteName};
@@ -189,7 +189,7 @@ pub fn greet<L: Linker>(
     ensures bad { IfErr result (λ e. (offset : ℕ) → e ≡ GreetError.BadFrame offset → (p : Past) × WereMade (L.links links.old) (L.links links.new) session (p ∷ []) × (was_cut p ≡ false)
         × (IsTrue (L.links links.old).shown → IsBadOver (purpose_value purpose) (history_value mine.now) p offset)) }
     ensures bad_told { IsTrue (L.links links.old).told → IfErr result (λ e. (offset : ℕ) → e ≡ GreetError.BadFrame offset → (offset ≡ 0) × (IsHello (greeting name.now (history_value mine.now)) → ⊥)) }
-    ensures memory { IsErrOf result GreetError.NoMemory → (over : List Past) × WereMade (L.links links.old) (L.links links.new) session over × AllByRecursion (λ p. was_cut p ≡ false) over }
+    ensures memory { IsErrOf result GreetError.NoMemory → (over : List Past) × WereMade (L.links links.old) (L.links links.new) session over × AllByRecursion (λ p. was_cut p ≡ false) over × (length over ≤ 1) }
 {
     let mut hearing = match begin_hearing(alloc, mine, purpose) {
         Ok(hearing) => hearing,

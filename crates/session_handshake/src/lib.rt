@@ -11,8 +11,10 @@ mod exchange;
 mod greeter;
 mod hearing;
 mod hello;
+mod laws;
 mod outgoing;
 mod session;
 
 pub use connection::{GreetError, Greeted, greet};
+pub use laws::{answers_by_histories, sessions_apart};
 pub use session::{SessionError, handshake};

@@ -1,5 +1,5 @@
 // A primary is asked.
-ghost use Rattle.std.specs.Prelude.{◌≡◌, ◌↔◌, ◌<◌, ◌^◌, [], ◌∷◌, ℕ, IsTrue, IfOk, IfErr, OnOk, IsErrOf, count_by};
+ghost use Rattle.std.specs.Prelude.{◌≡◌, ◌↔◌, ◌+◌, ◌<◌, ◌≤◌, ◌^◌, [], ◌∷◌, length, ℕ, IsTrue, IfOk, IfErr, OnOk, IsErrOf, count_by};
 ghost use Rattle.std.specs.List.{AllByRecursion};
 ghost use Rattle.global_defs.specs.declared.limits.TheConstants.{NUMBERS_END};
 ghost use Rattle.global_defs.specs.Fields.{IsReign, IsSiteName};
@@ -80,6 +80,12 @@ pub fn handshake<L: Linker>(
     // what the primary and the secondary received over the last one tells the answer, or where it is bad
     ensures met { Met (L.links links.old).shown (history_value mine.now) result (past_since (L.links links.old) (L.links links.new) session) }
     ensures link_cut { IsErrOf result SessionError.LinkCut ↔ (count_by was_cut (past_since (L.links links.old) (L.links links.new) session) ≡ 4) }
+    // each but the last was cut
+    ensures in_turn { length (past_since (L.links links.old) (L.links links.new) session) ≤ count_by was_cut (past_since (L.links links.old) (L.links links.new) session) + 1 }
+    ensures cut_off { IsErrOf result SessionError.LinkCut → length (past_since (L.links links.old) (L.links links.new) session) ≡ 4 }
+    ensures answered { OnOk result (length (past_since (L.links links.old) (L.links links.new) session) ≡ count_by was_cut (past_since (L.links links.old) (L.links links.new) session) + 1) }
+    ensures bad_last { IfErr result (λ e. (offset : ℕ) → e ≡ SessionError.BadFrame offset
+        → length (past_since (L.links links.old) (L.links links.new) session) ≡ count_by was_cut (past_since (L.links links.old) (L.links links.new) session) + 1) }
     // where links tell their bytes, the answer is the primary's to the secondary's HELLO, and this alone can be bad
     ensures hello { IsTrue (L.links links.old).told → OnOk result (IsHello (greeting name.now (history_value mine.now))) }
     ensures answer { IsTrue (L.links links.old).told → IfOk result (λ h. IsAnswer (history_value theirs.now) (carried (history_value mine.now)) (answer_frame h)) }

@@ -8,3 +8,4 @@ pub mod Progress
 pub mod Weights
 pub mod Along
 pub mod Cuts
+pub mod Gains

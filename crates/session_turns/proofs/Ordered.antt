@@ -162,15 +162,23 @@ going_on h now (Entry n t ∷ fs) goes on admitted =
     going_on admitted.0 now fs goes.1 (λ e. absurd (let is : ship.Shipped ≡ ship.Over = sym (entered_shipped h h.last) ∙ (sym (ap (λ (y : Heard). y.last) admitted.1.2) ∙ e) in cc)) admitted.2
 going_on h now (Bye n ∷ fs) goes on admitted = absurd goes.0
 
-pub all_followed : (begun c : Copy) (put : List Arrival) (f : HasFit begun put) (s : Shipping) (part : Sequence) (size : ℕ) (sent received rest : List ℕ) (given : List (List ℕ))
-    → HasMade (next_of begun) size s sent given → AreFirst (next_of begun) given (transactions part) → size ≡ length (begun.sequence ++ part) → HasStamps s.reigns (begun.sequence ++ part)
+-- what a primary sends has the entries of its part, behind as many as a secondary has
+pub entries_behind : (begun : Copy) (base part : Sequence) (reigns : List Reign) → length base ≡ length begun.sequence → HasStamps reigns (base ++ part)
+    → AllByRecursion IsFrame (connection reigns (next_of begun) (transactions part)) → HasEntries (stream (connection reigns (next_of begun) (transactions part))) part
+entries_behind begun base part reigns same stamps each =
+    subst (λ (n : ℕ). HasEntries (stream (connection reigns (n + 1) (transactions part))) part) same
+    (connection_entries reigns base part stamps (subst (λ (n : ℕ). AllByRecursion IsFrame (connection reigns (n + 1) (transactions part))) (sym same) each))
+
+-- behind a BYE a secondary has, behind what it had, what the primary has behind as much
+pub all_behind : (begun c : Copy) (base : Sequence) (put : List Arrival) (f : HasFit begun put) (s : Shipping) (part : Sequence) (size : ℕ) (sent received rest : List ℕ) (given : List (List ℕ)) → length base ≡ length begun.sequence
+    → HasMade (next_of begun) size s sent given → AreFirst (next_of begun) given (transactions part) → size ≡ length (base ++ part) → HasStamps s.reigns (base ++ part)
     → AllByRecursion IsFrame (connection s.reigns (next_of begun) (transactions part)) → IsPrefix received sent → AreFrames received f.frames rest → Followed begun put c
     → f.purpose ≡ ship.Ships → f.now.last ≡ ship.Over → c.sequence ≡ begun.sequence ++ part
-all_followed begun c put f s part size sent received rest given made first whole stamps each carried are follows ships over =
+all_behind begun c base put f s part size sent received rest given same made first whole stamps each carried are follows ships over =
     let next = next_of begun in
     let ts = transactions part in
     let fs = connection s.reigns next ts in
-    let count : size + 1 ≡ next + length ts = omega (arith, whole, length-append begun.sequence part, length-map part (λ e. e.transaction)) in
+    let count : size + 1 ≡ next + length ts = omega (arith, whole, same, length-append base part, length-map part (λ e. e.transaction)) in
     let front = made_bytes next size s sent given ts made first count in
     let more = carried.0 ++ front.0 in
     let is : stream fs ≡ received ++ more = front.1 ∙ (ap (λ (l : List ℕ). l ++ front.0) carried.1 ∙ append_assoc received carried.0 front.0) in
@@ -183,5 +191,12 @@ all_followed begun c put f s part size sent received rest given made first whole
     elim (split_last f.frames (resumed s.reigns next ts) (Bye (next + length ts - 1)) frames) [
       | inl some ↦ absurd (going_on (unbegun (record { length = length begun.sequence; reigns = begun.reigns })) f.now f.frames
           (all_first f.frames some.0 (subst (λ (l : List Frame). AllByRecursion Goes l) some.1 (tt, shipped_goes s.reigns true next ts))) (λ e. cc) admitted over)
-      | inr whole_one ↦ own ∙ ap (λ (l : Sequence). begun.sequence ++ l) (ap (entries_of None) f.arrive ∙ (ap (λ (l : List Frame). entries_of None (arrivals 0 None l)) whole_one ∙ once (stream fs) (entries_of None (arrivals 0 None fs)) part has_own (connection_entries s.reigns begun.sequence part stamps each)))
+      | inr whole_one ↦ own ∙ ap (λ (l : Sequence). begun.sequence ++ l) (ap (entries_of None) f.arrive ∙ (ap (λ (l : List Frame). entries_of None (arrivals 0 None l)) whole_one ∙ once (stream fs) (entries_of None (arrivals 0 None fs)) part has_own (entries_behind begun base part s.reigns same stamps each)))
     ]
+
+pub all_followed : (begun c : Copy) (put : List Arrival) (f : HasFit begun put) (s : Shipping) (part : Sequence) (size : ℕ) (sent received rest : List ℕ) (given : List (List ℕ))
+    → HasMade (next_of begun) size s sent given → AreFirst (next_of begun) given (transactions part) → size ≡ length (begun.sequence ++ part) → HasStamps s.reigns (begun.sequence ++ part)
+    → AllByRecursion IsFrame (connection s.reigns (next_of begun) (transactions part)) → IsPrefix received sent → AreFrames received f.frames rest → Followed begun put c
+    → f.purpose ≡ ship.Ships → f.now.last ≡ ship.Over → c.sequence ≡ begun.sequence ++ part
+all_followed begun c put f s part size sent received rest given made first whole stamps each carried are follows ships over =
+    all_behind begun c begun.sequence put f s part size sent received rest given refl made first whole stamps each carried are follows ships over

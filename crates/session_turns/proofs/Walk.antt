@@ -38,7 +38,7 @@ all_push : (n : ℕ) (rs : List Reign) (r : Reign) → AllByRecursion (λ r. r.s
 all_push n [] r all low = (low, tt)
 all_push n (q ∷ rs) r all low = (all.0, all_push n rs r all.1 low)
 
-all_begun : (n : ℕ) (rs : List Reign) → AllByRecursion (λ r. r.start ≤ n) rs → begun_by n rs ≡ rs
+pub all_begun : (n : ℕ) (rs : List Reign) → AllByRecursion (λ r. r.start ≤ n) rs → begun_by n rs ≡ rs
 all_begun n [] all = refl
 all_begun n (r ∷ rs) all = let is : nat_le r.start n ≡ true = grind (arith, nat_tests, all.0) in rw is (ap (λ (l : List Reign). r ∷ l) (all_begun n rs all.1))
 
@@ -166,7 +166,7 @@ other_last c h next under l agrees is may other = record {
   behind = λ e. absurd (other (sym (ap (λ (y : Heard). y.last) is) ∙ e));
 }
 
-not_shipped : (p : Purpose) → behind_resume p ≢ ship.Shipped
+pub not_shipped : (p : Purpose) → behind_resume p ≢ ship.Shipped
 not_shipped ship.Asks = λ e. cc
 not_shipped ship.Ships = λ e. cc
 
@@ -181,7 +181,7 @@ entered_shipped h ship.Resumed = refl
 entered_shipped h ship.Shipped = refl
 entered_shipped h ship.Over = refl
 
-told_fits : (p : Purpose) (h now : Heard) (f : Frame) → Fits p h f now → told_reign f ≡ reign_behind now.last
+pub told_fits : (p : Purpose) (h now : Heard) (f : Frame) → Fits p h f now → told_reign f ≡ reign_behind now.last
 told_fits p h now (Hello version name history) x = absurd x
 told_fits p h now (Resume n) x = sym (ap (λ (y : Heard). reign_behind y.last) x.2 ∙ behind_none p)
 told_fits p h now (RollbackFirst n) x = sym (ap (λ (y : Heard). reign_behind y.last) x.3)

@@ -1,5 +1,5 @@
 -- What a secondary's site is with the entries that came to it over a connection.
-use Rattle.std.specs.Prelude.{◌≡◌, ◌⊎◌, ◌≤◌, List, [], ◌∷◌, ◌++◌, length, Some, None}
+use Rattle.std.specs.Prelude.{◌≡◌, ◌⊎◌, ℕ, ◌+◌, ◌≤◌, ◌==◌, List, [], ◌∷◌, ◌++◌, length, Option, Some, None, if◌then◌else◌}
 use Rattle.std.specs.List.{AllByRecursion}
 use Rattle.global_defs.specs.Entry.{Reign}
 use Rattle.wire_defs.specs.Frames.{Frame}
@@ -15,6 +15,16 @@ use Rattle.update_process.specs.declared.update.UpdateError.TheVariants.{BadFram
 abbrev pub Followed : Copy → List Arrival → Copy → Type 0
 Followed c [] now = now ≡ c
 Followed c (x ∷ xs) now = (m : Copy) × Follows x c m × Followed m xs now
+
+-- the reign of a HISTORY right before the entry of that number, where it begins there
+abbrev pub new_reign : (n : ℕ) → Option Reign → List Reign
+new_reign n None = []
+new_reign n (Some r) = if r.start == n then r ∷ [] else []
+
+-- the reigns that begin with such arrivals, of which the first is the entry of that number
+abbrev pub gained : (n : ℕ) → List Arrival → List Reign
+gained n [] = []
+gained n (x ∷ xs) = new_reign n x.reign ++ gained (n + 1) xs
 
 -- all its surviving reigns have begun
 abbrev pub IsFitCopy : Copy → Type 0

@@ -103,6 +103,7 @@ fn ship<T: LinkTx, E: EntrySource>(
     ensures same { SameSending (T.sending tx.old) (T.sending tx.new) }
     ensures kept { (n : ℕ) (entry : List ℕ) → E.is_entry entries.old n entry → E.is_entry entries.new n entry }
     ensures still { (n : ℕ) → E.ready entries.old n → E.ready entries.new n }
+    ensures later { E.later entries.old entries.new }
     ensures sends { IsTrue (T.sending tx.old).told → (from : ℕ) → HasGiven (E.is_entry entries.old) from length source.old (T.sending tx.old).sent
         → HasGiven (E.is_entry entries.new) from length source.new (T.sending tx.new).sent }
     ensures reigns { IsTrue (T.sending tx.old).told → source.new.reigns ≡ source.old.reigns }
@@ -144,6 +145,7 @@ fn apply<S: EntrySink>(
     // where none was put it doesn't fail
     ensures nothing { taken out.old ≡ put_in into.old → OnErr result ⊥ }
     ensures going { OnOk result (IsTrue (S.going site.new)) }
+    ensures site_later { S.later site.old site.new }
     ensures on { IfErr result (λ e. IsSites e ⊎ IsTrue (S.going site.new)) }
     ensures applied { OnOk result ((begun : Copy) → Awaits begun (put_in into.old) (taken out.old) (S.copy site.old)
         → (taken out.new ≡ put_in into.new) × Followed begun (put_in into.new) (S.copy site.new)) }
@@ -211,6 +213,7 @@ fn follow<R: LinkRx, S: EntrySink>(
     ensures pool { IsPool into.new out.new }
     ensures empty { IsEmptyPool into.old out.old → IfOk result (λ t. t ≡ Turned.On → IsEmptyPool into.new out.new) }
     ensures going { OnOk result (IsTrue (S.going site.new)) }
+    ensures site_later { S.later site.old site.new }
     ensures hears { IsEmptyPool into.old out.old → IfOk result (λ t. t ≡ Turned.On
         → HasMoved receiver.old receiver.new (R.receiving rx.old) (R.receiving rx.new) ⊎ IsStill receiver.old receiver.new (R.receiving rx.old) (R.receiving rx.new)) }
     ensures comes { IsTrue (R.receiving rx.old).shown → (begun : Copy) → HasFollowed begun receiver.old (R.receiving rx.old).received (put_in into.old) (taken out.old) (S.copy site.old)
@@ -280,6 +283,7 @@ impl<P: Drop> Machines<P> {
         ensures others { (self.new.receiver ≡ self.old.receiver) × (self.new.into ≡ self.old.into) × (self.new.out ≡ self.old.out) }
         ensures kept { (n : ℕ) (entry : List ℕ) → E.is_entry entries.old n entry → E.is_entry entries.new n entry }
         ensures still { (n : ℕ) → E.ready entries.old n → E.ready entries.new n }
+        ensures later { E.later entries.old entries.new }
         ensures sends { IsTrue (T.sending tx.old).told → (from : ℕ) → HasGiven (E.is_entry entries.old) from length self.old.source (T.sending tx.old).sent
             → HasGiven (E.is_entry entries.new) from length self.new.source (T.sending tx.new).sent }
         ensures reigns { IsTrue (T.sending tx.old).told → self.new.source.reigns ≡ self.old.source.reigns }
@@ -326,8 +330,10 @@ impl<P: Drop> Machines<P> {
         ensures same_rx { SameReceiving (R.receiving rx.old) (R.receiving rx.new) }
         ensures pool { IsPool self.new.into self.new.out }
         ensures going { OnOk result (IsTrue (S.going site.new)) }
+        ensures site_later { S.later site.old site.new }
         ensures kept { (n : ℕ) (entry : List ℕ) → E.is_entry entries.old n entry → E.is_entry entries.new n entry }
         ensures still { (n : ℕ) → E.ready entries.old n → E.ready entries.new n }
+        ensures later { E.later entries.old entries.new }
         ensures sends { IsTrue (T.sending tx.old).told → (from : ℕ) → HasGiven (E.is_entry entries.old) from length self.old.source (T.sending tx.old).sent
             → HasGiven (E.is_entry entries.new) from length self.new.source (T.sending tx.new).sent }
         ensures reigns { IsTrue (T.sending tx.old).told → self.new.source.reigns ≡ self.old.source.reigns }
@@ -379,8 +385,10 @@ impl<P: Drop> Machines<P> {
         ensures down { SendingLooked (L.Tx.sending ends.old.down_tx) (L.Tx.sending ends.new.down_tx) × ReceivingLooked (L.Rx.receiving ends.old.up_rx) (L.Rx.receiving ends.new.up_rx) }
         ensures pool { IsPool self.new.into self.new.out }
         ensures going { OnOk result (IsTrue (S.going site.new)) }
+        ensures site_later { S.later site.old site.new }
         ensures kept { (n : ℕ) (entry : List ℕ) → E.is_entry entries.old n entry → E.is_entry entries.new n entry }
         ensures still { (n : ℕ) → E.ready entries.old n → E.ready entries.new n }
+        ensures later { E.later entries.old entries.new }
         // what was sent and made are frames of the primary's entries, from behind the RESUME on
         ensures sends { IsTrue (L.Tx.sending ends.old.up_tx).told → (from : ℕ) → HasGiven (E.is_entry entries.old) from length self.old.source (L.Tx.sending ends.old.up_tx).sent
             → HasGiven (E.is_entry entries.new) from length self.new.source (L.Tx.sending ends.new.up_tx).sent }

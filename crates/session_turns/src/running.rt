@@ -38,8 +38,10 @@ impl<P: Drop> Machines<P> {
         ensures down { SendingLooked (L.Tx.sending ends.old.down_tx) (L.Tx.sending ends.new.down_tx) × ReceivingLooked (L.Rx.receiving ends.old.up_rx) (L.Rx.receiving ends.new.up_rx) }
         ensures pool { IsPool self.new.into self.new.out }
         ensures going { OnOk result (IsTrue (S.going site.new)) }
+        ensures site_later { S.later site.old site.new }
         ensures kept { (n : ℕ) (entry : List ℕ) → E.is_entry entries.old n entry → E.is_entry entries.new n entry }
         ensures still { (n : ℕ) → E.ready entries.old n → E.ready entries.new n }
+        ensures later { E.later entries.old entries.new }
         // what was sent and made are frames of the primary's entries, from behind the RESUME on
         ensures sends { IsTrue (L.Tx.sending ends.old.up_tx).told → (from : ℕ) → HasGiven (E.is_entry entries.old) from length self.old.source (L.Tx.sending ends.old.up_tx).sent
             → HasGiven (E.is_entry entries.new) from length self.new.source (L.Tx.sending ends.new.up_tx).sent }

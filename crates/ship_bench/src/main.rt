@@ -31,6 +31,7 @@ fn ship(alloc: Global, length: u64, value: u16) -> Result<u64, StandError> {
         &mut site,
         &mut links,
         0,
+        0,
     );
     Ok(match ended {
         Ok(SessionEnd::At(came)) => came,

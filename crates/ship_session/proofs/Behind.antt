@@ -53,7 +53,7 @@ followed_first begun r received put taken frames fit h none all = record {
 }
 
 pub grown_first : (begun : Copy) (r : Listening) (received : List ℕ) (frames : List Frame) → IsFitCopy begun → r.purpose ≡ Ships → IsHearing (unbegun (history_of begun)) r received [] frames → HasGrown begun received begun
-grown_first begun r received frames fit ships h = record { front = []; back = []; got = got_of begun r received [] frames fit ships h; fit = fit; sequence = sym (append-nil begun.sequence) }
+grown_first begun r received frames fit ships h = record { front = []; back = []; got = got_of begun r received [] frames fit ships h; fit = fit; sequence = sym (append-nil begun.sequence); reigns = sym (append-nil begun.reigns) }
 
 -- nothing was sent behind the RESUME
 pub given_first : (Is : ℕ → List ℕ → Type 0) (reigns : List Reign) (from size : ℕ) (sent : List ℕ) → sent ≡ spelled_frame (Resume from) → HasGiven Is from size (resumed_at reigns from) sent

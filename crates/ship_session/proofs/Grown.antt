@@ -11,7 +11,7 @@ use Rattle.ship_defs.specs.Arrivals.{Arrival}
 use Rattle.receiver_server.specs.Listenings.{Listening, IsHearing, IsQuiet}
 use Rattle.receiver_server.proofs.Told.{all_heard, ends_early}
 use Rattle.update_process.specs.Copies.{Copy, history_of, told, Takes, hardened}
-use Rattle.session_turns.specs.Following.{Followed, IsFitCopy}
+use Rattle.session_turns.specs.Following.{Followed, IsFitCopy, HasFit}
 use Rattle.session_turns.specs.Turns.{HasFollowed, HasHalted, IsShort, HaltsWith, Comes}
 use Rattle.session_turns.specs.declared.machines.TurnError.{TurnError}
 use Rattle.session_turns.specs.declared.machines.TurnError.TheVariants.{Site, NoMemory}
@@ -19,6 +19,7 @@ use Rattle.session_turns.specs.declared.machines.Turned.{Turned}
 use Rattle.session_turns.specs.declared.machines.Turned.TheVariants.{On, Cut, Over, Short, Bad}
 use Rattle.session_turns.proofs.Walk.{followed_told}
 use Rattle.session_turns.proofs.Taken.{followed_push}
+use Rattle.session_turns.proofs.Gains.{Settled, gained_by, first_told}
 use Rattle.ship_session.specs.Ends.{HasGot, HasGrown, HasApplied, HasAppliedAll, IsFullAt, ShipsTo, end_of, short_end}
 
 all_front : (xs ys : List Frame) → AllByRecursion IsFrame (xs ++ ys) → AllByRecursion IsFrame xs
@@ -48,6 +49,11 @@ told_reigns : (c : Copy) (o : Option Reign) → (told c o).reigns ≡ c.reigns
 told_reigns c None = refl
 told_reigns c (Some r) = refl
 
+-- the first entry of a connection comes behind a HISTORY
+settled_first : (begun : Copy) (front back : List Arrival) → HasFit begun (front ++ back) → Settled begun front
+settled_first begun [] back f = tt
+settled_first begun (x ∷ xs) back f = inl (first_told f.purpose f.frames 0 (unbegun (history_of begun)) f.now x (xs ++ back) f.admitted (λ e. cc) (sym f.arrive))
+
 module _ (begun now : Copy) (received : List ℕ) where
   -- where all was applied
   pub grown_all : (put : List Arrival) → HasGot begun received put → Followed begun put now → HasGrown begun received now
@@ -55,7 +61,8 @@ module _ (begun now : Copy) (received : List ℕ) where
       let f = got.fit in
       let is : put ++ [] ≡ put = append-nil put in
       let y = followed_told f.purpose begun now f.frames f.now put [] f.fit f.admitted (sym f.arrive ∙ sym is) follows in
-      record { front = put; back = []; got = subst (λ (l : List Arrival). HasGot begun received l) (sym is) got; fit = y.2; sequence = y.1 }
+      let whole = subst (λ (l : List Arrival). HasGot begun received l) (sym is) got in
+      record { front = put; back = []; got = whole; fit = y.2; sequence = y.1; reigns = gained_by begun now put (settled_first begun put [] whole.fit) follows }
 
   -- where all but the last one was
   module _ (applied : List Arrival) (x : Arrival) (c : Copy) (got : HasGot begun received (applied ++ x ∷ [])) (follows : Followed begun applied c) where
@@ -69,6 +76,7 @@ module _ (begun now : Copy) (received : List ℕ) where
           got = got;
           fit = subst (λ (l : List Reign). AllByRecursion (λ r. r.start ≤ length now.sequence) l) (sym reigns) (subst (λ (s : Sequence). AllByRecursion (λ r. r.start ≤ length s) c.reigns) (sym same) y.2);
           sequence = same ∙ y.1;
+          reigns = reigns ∙ gained_by begun c applied (settled_first begun applied (x ∷ []) got.fit) follows;
         }
 
     pub grown_told : now ≡ told c x.reign → HasGrown begun received now
@@ -82,7 +90,7 @@ module _ (begun now : Copy) (received : List ℕ) where
 
 -- what was applied and hardened stood before it was hardened
 grown_before : (begun now : Copy) (received : List ℕ) → HasGrown begun received (hardened now) → HasGrown begun received now
-grown_before begun now received g = record { front = g.front; back = g.back; got = g.got; fit = g.fit; sequence = g.sequence }
+grown_before begun now received g = record { front = g.front; back = g.back; got = g.got; fit = g.fit; sequence = g.sequence; reigns = g.reigns }
 
 module _ {F : Type 0} (begun now : Copy) (r : Listening) (received : List ℕ) (put taken : List Arrival) (ships : r.purpose ≡ Ships) where
   halted_grown : (t : Result Turned (TurnError F)) (x : Arrival) (c : Copy) → HasHalted begun r received put x c → HaltsWith t x c now → HasGrown begun received now

@@ -3,3 +3,4 @@ pub mod Grown
 pub mod Last
 pub mod Single
 pub mod Order
+mod Matched

@@ -1,14 +1,14 @@
 -- What one connection of a session came to.
-use Rattle.std.proofs.Common.{◌≡◌, ◌≢◌, inl, inr, ℕ, ◌+◌, ◌<◌, ◌≤◌, Bool, true, false, IsTrue, [], ◌∷◌, Option, Some, None, Result, Ok, Err, IfOk, refl, ap, subst, arith, if◌then◌else◌}
+use Rattle.std.proofs.Common.{◌≡◌, ◌≢◌, inl, inr, ℕ, ◌+◌, ◌<◌, ◌≤◌, Bool, true, false, IsTrue, List, [], ◌∷◌, Option, Some, None, Result, Ok, Err, IfOk, refl, ap, subst, arith, if◌then◌else◌}
 use Rattle.std.specs.Prelude.{count_by}
 use Rattle.std.proofs.lemmas.List.Sums.{sum_by-cons}
 use Rattle.global_defs.specs.Prefix as prefix
-use Rattle.lineage_defs.specs.Histories.{BothHave, IsCommonOf}
+use Rattle.lineage_defs.specs.Histories.{BothHave, IsCommonOf, IsMatched}
 use Rattle.wire_defs.specs.Links.{Past, was_cut}
 use Rattle.wire_defs.specs.Frames as frames
 use Rattle.wire_defs.specs.Frames.{Frame}
 use Rattle.ship_defs.specs.Hearing.{Ships, Heard, Over, unbegun}
-use Rattle.ship_defs.specs.Greeting.{IsAnswer, GreetsWith, carried}
+use Rattle.ship_defs.specs.Greeting.{IsHello, IsAnswer, GreetsWith, carried, greeting}
 use Rattle.receiver_server.specs.Hearings.{behind}
 use Rattle.receiver_server.specs.Listenings.{Listening, IsHearing, IsQuiet}
 use Rattle.receiver_server.specs.declared.step.Handshake.{Handshake}
@@ -18,6 +18,7 @@ use Rattle.update_process.specs.Copies.{Copy}
 use Rattle.session_handshake.specs.Exchanges.{Views, cuts_of}
 use Rattle.session_handshake.specs.Connections.{past_of_views, IsAnsweredOver}
 use Rattle.session_handshake.proofs.Greets.{not_cut, was_one, ends_answered}
+use Rattle.session_handshake.proofs.Carried.{follows_on}
 use Rattle.session_turns.specs.declared.machines.TurnError.{TurnError}
 use Rattle.ship_session.specs.declared.end.SessionEnd.{SessionEnd}
 use Rattle.ship_session.specs.declared.end.SessionEnd.TheVariants.{At, LinkCut, RollbackFirst, BadFrame, Failed}
@@ -51,7 +52,7 @@ module _ {P : Type 0} (F : Type 0) (begun now : Copy) where
       → (IsTrue shown → ShipsTo r begun now v.down_rx.received v.down_rx.closed) → MetOne shown r begun now (past_of_views s v ∷ [])
   met_shipped shown s v (Ok None) cut uncut is ships = (past_of_views s v, refl, was_one s v (cut refl))
   met_shipped shown s v (Ok (Some e)) cut uncut is ships = (past_of_views s v, refl, not_cut s v (uncut (λ x. let no : ⊥ = cc in no)), not_link_cut e is, λ y. ends_met e (past_of_views s v) (ships y))
-  met_shipped shown s v (Err error) cut uncut is ships = one_at_most (past_of_views s v)
+  met_shipped shown s v (Err error) cut uncut is ships = omega arith
 
 both_at : (theirs mine : prefix.History) (n : ℕ) → IsCommonOf n theirs mine → 0 < n → BothHave n theirs.reigns mine.reigns
 both_at theirs mine n c some = elim c.same [
@@ -67,6 +68,11 @@ not_common theirs mine t c less all = c.greatest mine.length less all.in_first a
 pub resumes_at : (theirs mine : prefix.History) (a : Handshake) (n : ℕ) → a ≡ handshake.Resume n → IsAnswer theirs (carried mine) (answer_frame a) → IsCommonOf mine.length theirs (carried mine) × (answer_frame a ≡ frames.Resume (mine.length + 1))
 resumes_at theirs mine (handshake.Resume m) n is x = (x.0, ap (λ (k : ℕ). frames.Resume k) x.1)
 resumes_at theirs mine (handshake.RollbackFirst m) n is x = absurd (let no : ⊥ = cc in no)
+
+-- a RESUME is from a primary whose history goes on from the secondary's
+pub resumes_matched : (name : List ℕ) (theirs mine : prefix.History) (a : Handshake) (n : ℕ) → a ≡ handshake.Resume n → IsHello (greeting name mine) → IsAnswer theirs (carried mine) (answer_frame a) → IsMatched theirs mine
+resumes_matched name theirs mine (handshake.Resume m) n is hello x = (follows_on name theirs mine m hello x).0
+resumes_matched name theirs mine (handshake.RollbackFirst m) n is hello x = absurd (let no : ⊥ = cc in no)
 
 -- what a secondary heard where its entries aren't the primary's
 pub rolls : (hist mine : prefix.History) (s : Listening) (p : Past) (a : Handshake) (n : ℕ) → a ≡ handshake.RollbackFirst n → mine ≡ hist → s.purpose ≡ Ships → s.heard ≡ behind Ships (unbegun mine) (answer_frame a) → (s.heard.last ≡ Over → IsQuiet s)
@@ -92,3 +98,8 @@ module _ {P F : Type 0} where
   no_rollback (Ok (Some (BadFrame offset))) A is = λ n e. absurd (let no : ⊥ = cc in no)
   no_rollback (Ok (Some (Failed error))) A is = λ n e. absurd (let no : ⊥ = cc in no)
   no_rollback (Err error) A is = tt
+
+  -- a fact of a BYE, and another that holds whatever it answers
+  pub with_matched : (r : Result (Option (SessionEnd P)) (TurnError F)) (A B : Type 0) → A → IfOk r (λ o. (n : ℕ) → o ≡ Some (At n) → B) → IfOk r (λ o. (n : ℕ) → o ≡ Some (At n) → A × B)
+  with_matched (Ok o) A B a b = λ n is. (a, b n is)
+  with_matched (Err error) A B a b = tt

@@ -1,20 +1,20 @@
 -- What a session of a section comes to, by its connections and its secondary's site.
-use Rattle.std.specs.Prelude.{◌≡◌, ◌≢◌, ◌⊎◌, ℕ, ◌+◌, ◌-◌, ◌≤◌, Bool, false, IsTrue, List, [], ◌∷◌, ◌++◌, length, map, drop, count_by, Option, Some, None, Result, Ok, Err}
+use Rattle.std.specs.Prelude.{◌≡◌, ◌≢◌, ◌⊎◌, ℕ, ◌+◌, ◌-◌, ◌≤◌, Bool, false, IsTrue, List, [], ◌∷◌, ◌++◌, length, map, take, drop, count_by, Option, Some, None, Result, Ok, Err}
 use Rattle.std.specs.List.{AllByRecursion}
 use Rattle.global_defs.specs.Entry.{Sequence}
 use Rattle.global_defs.specs.Prefix as prefix
 use Rattle.global_defs.specs.Prefix.{IsPrefix}
-use Rattle.lineage_defs.specs.Histories.{HasStamps}
+use Rattle.lineage_defs.specs.Histories.{HasStamps, IsMatched, begun_within}
 use Rattle.wire_defs.specs.Frames as frames
 use Rattle.wire_defs.specs.Frames.{Frame, IsFrame, AreFrames}
 use Rattle.wire_defs.specs.Links.{Past, was_cut}
 use Rattle.ship_defs.specs.Shipping.{connection}
 use Rattle.ship_defs.specs.Hearing.{Ships, Over, HasUnfit, unbegun}
 use Rattle.ship_defs.specs.Arrivals.{Arrival, entries_of}
-use Rattle.update_process.specs.Copies.{Copy, history_of}
+use Rattle.update_process.specs.Copies.{Copy, history_of, next_of}
 use Rattle.update_process.specs.Updates.{IsTooLarge}
 use Rattle.session_handshake.specs.Connections.{IsBadOver, IsAnsweredOver}
-use Rattle.session_turns.specs.Following.{Followed, IsFitCopy, HasFit}
+use Rattle.session_turns.specs.Following.{Followed, IsFitCopy, HasFit, gained}
 use Rattle.session_turns.specs.Sessions.{AreFirst}
 use Rattle.session_turns.specs.declared.machines.TurnError.{TurnError}
 use Rattle.session_turns.specs.declared.machines.Turned.{Turned}
@@ -33,6 +33,21 @@ pub record Gives (Is : ℕ → List ℕ → Type 0) (theirs : prefix.History) (a
   pub form : (base part : Sequence) → all ≡ base ++ part → AllByRecursion IsFrame (connection theirs.reigns (length base + 1) (map (λ e. e.transaction) part))
   pub shown : (n : ℕ) (entry : List ℕ) → Is n entry → IsEntryOf all n entry
 
+-- Behind what it had the site has the first few entries that the primary has past as many, and the reigns of the primary that begin there.
+pub record HasJoined (theirs : prefix.History) (all : Sequence) (old now : Copy) : Type 0 where
+  pub count : ℕ
+  pub few : count ≤ length (drop (length old.sequence) all)
+  pub sequence : now.sequence ≡ old.sequence ++ take count (drop (length old.sequence) all)
+  pub reigns : now.reigns ≡ old.reigns ++ begun_within (length old.sequence) (length old.sequence + count) theirs.reigns
+
+-- the histories match, and some entries were taken
+abbrev pub HasTaken : prefix.History → Sequence → (old now : Copy) → Type 0
+HasTaken theirs all old now = IsMatched theirs (history_of old) × HasJoined theirs all old now
+
+-- the same of all that the primary has
+abbrev pub HasTakenAll : prefix.History → Sequence → (old now : Copy) → Type 0
+HasTakenAll theirs all old now = IsMatched theirs (history_of old) × ((j : HasJoined theirs all old now) × (j.count ≡ length (drop (length old.sequence) all)))
+
 -- What came to a site over a connection, which was `begun` before that: frames, each of which fits but for its nodes.
 pub record HasGot (begun : Copy) (received : List ℕ) (put : List Arrival) : Type 0 where
   pub fit : HasFit begun put
@@ -47,6 +62,7 @@ pub record HasGrown (begun : Copy) (received : List ℕ) (now : Copy) : Type 0 w
   pub got : HasGot begun received (front ++ back)
   pub fit : IsFitCopy now
   pub sequence : now.sequence ≡ begun.sequence ++ entries_of None front
+  pub reigns : now.reigns ≡ begun.reigns ++ gained (next_of begun) front
 
 -- all that came was applied, each entry once and in order
 pub record HasApplied (begun : Copy) (received : List ℕ) (now : Copy) : Type 0 where
@@ -126,7 +142,7 @@ module _ {P : Type 0} where
     abbrev pub MetOne : (shown : Bool) → Result (Option (SessionEnd P)) (TurnError F) → (begun now : Copy) → List Past → Type 0
     MetOne shown (Ok None) begun now over = (p : Past) × (over ≡ p ∷ []) × IsTrue (was_cut p)
     MetOne shown (Ok (Some end)) begun now over = (p : Past) × (over ≡ p ∷ []) × (was_cut p ≡ false) × (end ≢ LinkCut) × (IsTrue shown → EndsAs end begun now p)
-    MetOne shown (Err error) begun now over = count_by was_cut over ≤ 1
+    MetOne shown (Err error) begun now over = length over ≤ 1
 
     -- what shipping over a connection came to
     abbrev pub ShipsTo : Result (Option (SessionEnd P)) (TurnError F) → (begun now : Copy) → (received : List ℕ) → (closed : Bool) → Type 0

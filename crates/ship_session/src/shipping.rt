@@ -1,5 +1,5 @@
 // A primary ships behind its RESUME.
-ghost use Rattle.std.specs.Prelude.{◌≡◌, ◌+◌, ◌<◌, ◌≤◌, ℕ, List, [], length, false, Some, None, IsTrue, IfOk, OnOk};
+ghost use Rattle.std.specs.Prelude.{◌≡◌, ◌+◌, ◌<◌, ◌≤◌, ℕ, List, [], length, drop, false, Some, None, IsTrue, IfOk, OnOk};
 ghost use Rattle.std.specs.List.{AllByRecursion};
 ghost use Rattle.global_defs.specs.declared.limits.TheConstants.{NUMBERS_END};
 ghost use Rattle.global_defs.specs.Entry.{Sequence};
@@ -19,7 +19,7 @@ ghost use Rattle.session_handshake.specs.Connections.{IsOpen};
 ghost use Rattle.session_turns.specs.Following.{IsFitCopy};
 ghost use Rattle.session_turns.specs.Progress.{IsEmptyPool};
 ghost use Rattle.session_turns.specs.Sessions.{CanGive};
-ghost use Rattle.ship_session.specs.Ends.{Gives, HasGrown, ShipsTo, IsShipEnd, end_of};
+ghost use Rattle.ship_session.specs.Ends.{Gives, HasJoined, HasGrown, ShipsTo, IsShipEnd, end_of};
 
 use super::end::SessionEnd;
 use gvn_key::NoMemory;
@@ -98,8 +98,10 @@ where
     ensures same { SameEnds (views L.Tx.sending L.Rx.receiving ends.old) (views L.Tx.sending L.Rx.receiving ends.new) }
     ensures up_rx { ReceivingLooked (L.Rx.receiving ends.old.up_rx) (L.Rx.receiving ends.new.up_rx) }
     ensures going { OnOk result (IsTrue (S.going site.new)) }
+    ensures site_later { S.later site.old site.new }
     ensures kept { (n : ℕ) (entry : List ℕ) → E.is_entry entries.old n entry → E.is_entry entries.new n entry }
     ensures still { (n : ℕ) → E.ready entries.old n → E.ready entries.new n }
+    ensures later { E.later entries.old entries.new }
     ensures cut { IfOk result (λ o. o ≡ None → cuts_of (views L.Tx.sending L.Rx.receiving ends.new) ≡ 1) }
     ensures uncut { IfOk result (λ o. (o ≡ None → ⊥) → cuts_of (views L.Tx.sending L.Rx.receiving ends.new) ≡ 0) }
     ensures once { cuts_of (views L.Tx.sending L.Rx.receiving ends.new) ≤ 1 }
@@ -110,6 +112,11 @@ where
     ensures in_order { IsTrue (L.links links.now).told → (all : Sequence) → Gives (E.is_entry entries.new) (history_value theirs.now) all → IsPrefix (S.copy site.old).sequence all → IsPrefix (S.copy site.new).sequence all }
     ensures all { IsTrue (L.links links.now).told → (all : Sequence) → Gives (E.is_entry entries.new) (history_value theirs.now) all → IsPrefix (S.copy site.old).sequence all
         → IfOk result (λ o. (n : ℕ) → o ≡ Some (SessionEnd.At n) → (S.copy site.new).sequence ≡ all) }
+    // whatever entries it had, it takes the primary's past as many
+    ensures joined { IsTrue (L.links links.now).told → (all : Sequence) → Gives (E.is_entry entries.new) (history_value theirs.now) all → length (S.copy site.old).sequence ≤ length all
+        → HasJoined (history_value theirs.now) all (S.copy site.old) (S.copy site.new) }
+    ensures joined_all { IsTrue (L.links links.now).told → (all : Sequence) → Gives (E.is_entry entries.new) (history_value theirs.now) all → length (S.copy site.old).sequence ≤ length all
+        → IfOk result (λ o. (n : ℕ) → o ≡ Some (SessionEnd.At n) → (j : HasJoined (history_value theirs.now) all (S.copy site.old) (S.copy site.new)) × (j.count ≡ length (drop (length (S.copy site.old).sequence) all))) }
 {
     links.beside(ends);
     let from = site.history().length + 1;

@@ -87,12 +87,19 @@ const SERIALS: u64 = 1 << 32;
 impl EntrySource for Primary {
     type Error = Unread;
 
-    ghost use Rattle.std.specs.Prelude.{◌≡◌, ◌≤◌};
+    ghost use Rattle.std.specs.Prelude.{◌≡◌, ◌≤◌, refl};
+    ghost use Rattle.std.proofs.Common.{◌∙◌};
     ghost use Rattle.ship_stands.specs.Alike.{entry_of};
 
     ghost is_entry = { λ p n entry. entry ≡ entry_of p.updates n };
 
     ghost ready = { λ p n. n ≤ p.count };
+
+    ghost later = { λ a b. b.updates ≡ a.updates };
+
+    ghost later_same = { λ a. refl };
+
+    ghost later_still = { λ a b c first more. more ∙ first };
 
     fn read(&mut self, number: u64, out: &mut Bytes) -> Result<bool, Unread> {
         if self.spoilt != 0 && self.spoilt <= number {

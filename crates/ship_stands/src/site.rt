@@ -166,7 +166,8 @@ impl Site {
 impl EntrySink for Site {
     type Error = Stopped;
 
-    ghost use Rattle.std.specs.Prelude.{true, ◌+◌, ◌++◌, length, option_map, option_to_list};
+    ghost use Rattle.std.specs.Prelude.{◌≡◌, true, ◌+◌, ◌++◌, length, option_map, option_to_list, refl};
+    ghost use Rattle.std.proofs.Common.{◌∙◌};
     ghost use Rattle.global_defs.specs.Prefix.{stamp_at};
     ghost use Rattle.gvn_model.specs.Reigns.{reign_value};
     ghost use Rattle.ship_stands.specs.Formed.{front_formed};
@@ -176,6 +177,12 @@ impl EntrySink for Site {
     ghost copy = { λ s. copy_of s };
 
     ghost going = { λ _. true };
+
+    ghost later = { λ a b. b.stop ≡ a.stop };
+
+    ghost later_same = { λ a. refl };
+
+    ghost later_still = { λ a b c first more. more ∙ first };
 
     ghost formed = { λ s. front_formed s.history.reigns (option_to_list (option_map reign_value s.remembered)) s.formed };
 

@@ -128,6 +128,7 @@ pub fn session(rt: &impl Abort, alloc: Global, plan: Plan<'_>, cuts: &[u64]) -> 
         &mut site,
         &mut links,
         0,
+        0,
     );
     Told {
         how: made(ended),

@@ -15,6 +15,13 @@ pub trait EntrySource {
     /// The entry of that number is hardened, and this source will give it.
     ghost ready: { Self → ℕ → Type 0 };
 
+    /// What this source may have become by calls that read.
+    ghost later: { Self → Self → Type 0 };
+
+    ghost later_same: { (a : Self) → later a a };
+
+    ghost later_still: { (a b c : Self) → later a b → later b c → later a c };
+
     /// Puts the bytes of an entry into `out`, in place of what it held, where the entry is hardened yet. Answers whether it is.
     fn read(&mut self, number: u64, out: &mut Bytes) -> Result<bool, Self::Error>
         requires { IsNumber number }
@@ -22,5 +29,6 @@ pub trait EntrySource {
         ensures size { IfOk result (λ b. IsTrue b → length out.new < 2 ^ 32) }
         ensures ready { ready self.old number → IfOk result (λ b. IsTrue b) }
         ensures kept { (n : ℕ) (entry : List ℕ) → is_entry self.old n entry → is_entry self.new n entry }
-        ensures still { (n : ℕ) → ready self.old n → ready self.new n };
+        ensures still { (n : ℕ) → ready self.old n → ready self.new n }
+        ensures later { later self.old self.new };
 }

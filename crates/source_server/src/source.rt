@@ -158,6 +158,7 @@ impl Source {
         requires going { self.old.ended ≡ false }
         ensures kept { (n : ℕ) (entry : List ℕ) → E.is_entry entries.old n entry → E.is_entry entries.new n entry }
         ensures still { (n : ℕ) → E.ready entries.old n → E.ready entries.new n }
+        ensures later { E.later entries.old entries.new }
         ensures taken { IfOk result (λ b. IsTrue b → (entry : List ℕ) × E.is_entry entries.new self.old.next entry
             × (self.new ≡ record self.old { next = self.old.next + 1; first = false; pending = made_of self.old entry })) }
         ensures not_yet { IfOk result (λ b. b ≡ false → self.new ≡ self.old) }
@@ -184,6 +185,7 @@ impl Source {
         requires going { self.old.ended ≡ false }
         ensures kept { (n : ℕ) (entry : List ℕ) → E.is_entry entries.old n entry → E.is_entry entries.new n entry }
         ensures still { (n : ℕ) → E.ready entries.old n → E.ready entries.new n }
+        ensures later { E.later entries.old entries.new }
         ensures taken { IfOk result (λ b. IsTrue b → (entry : List ℕ) × E.is_entry entries.new self.old.next entry
             × (self.new ≡ record self.old { next = self.old.next + 1; first = false; pending = made_of self.old entry })) }
         ensures not_yet { IfOk result (λ b. b ≡ false → self.new ≡ self.old) }
@@ -242,6 +244,7 @@ impl Source {
         ensures finished { (T.sending tx.new).finished ≡ (T.sending tx.old).finished }
         ensures kept { (n : ℕ) (entry : List ℕ) → E.is_entry entries.old n entry → E.is_entry entries.new n entry }
         ensures still { (n : ℕ) → E.ready entries.old n → E.ready entries.new n }
+        ensures later { E.later entries.old entries.new }
         // whatever it answers, no entry was taken, or the one of the next number, with its HISTORY where it has one
         ensures ships { IsTrue (T.sending tx.old).told → Goes (E.is_entry entries.new) self.old self.new (T.sending tx.old).sent (T.sending tx.new).sent }
         ensures moves { IsTrue (T.sending tx.old).told → 0 < (T.sending tx.old).free → CanShip (E.ready entries.old) self.old → IfOk result (λ s. s ≡ Shipped.Moved) }

@@ -8,7 +8,7 @@ use Rattle.receiver_server.specs.Listenings.{IsHearing}
 use Rattle.session_handshake.specs.Exchanges.{views, cuts_of, HasBadAnswer}
 use Rattle.session_handshake.specs.Connections.{past_of_views}
 use Rattle.session_handshake.specs.declared.connection.GreetError.TheVariants.{Cut}
-use Rattle.session_handshake.proofs.Greets.{is_open, answer_is, bad_over, bad_is, greeted_with, given_back, not_cut, was_one}
+use Rattle.session_handshake.proofs.Greets.{is_open, answer_is, bad_over, bad_is, greeted_with, begun_order, given_back, not_cut, was_one}
 use Rattle.session_handshake.proofs.connection.greet.Goals as goal
 
 pub talk-requires-clause-begun : goal.talk-requires-clause-begun
@@ -72,8 +72,12 @@ pub returns-in-Err-talk-clause-cut : goal.returns-in-Err-talk-clause-cut
 returns-in-Err-talk-clause-cut g c = λ e.
     let w = views g.L.Tx.LinkTx.sending g.L.Rx.LinkRx.receiving c.talk.new.ends in
     let same : c.in-Err-talk.error ≡ Cut = cc in
-    let one : cuts_of w ≡ 1 = c.in-Err-talk.ensures.cut (ap Err same) in
-    (past_of_views c.args.session w, given_back (g.L.Linker.links c.args.links.now) (g.L.Linker.links c.connect.new.links) (g.L.Linker.links c.settle.new.self) c.args.session w c.in-Ok-connect.ensures.begun.made c.settle.ensures.cuts c.settle.ensures.past (omega (arith, one)), was_one c.args.session w one)
+    let one : cuts_of w ≡ 1 = c.in-Err-talk.ensures.cut (ap Err same) in (
+      past_of_views c.args.session w,
+      given_back (g.L.Linker.links c.args.links.now) (g.L.Linker.links c.connect.new.links) (g.L.Linker.links c.settle.new.self) c.args.session w c.in-Ok-connect.ensures.begun.made c.settle.ensures.cuts c.settle.ensures.past (omega (arith, one)) (begun_order (g.L.Linker.links c.args.links.now) (g.L.Linker.links c.connect.new.links) c.args.session (views g.L.Tx.LinkTx.sending g.L.Rx.LinkRx.receiving c.in-Ok-connect.ends) w c.in-Ok-connect.ensures.begun c.talk.ensures.same)
+          ((g.met.L.Tx.LinkTx g.world.𝓛 g.world.𝓜 g.world.𝓡 ((λ s x. x), (λ x. x), (λ x. x), λ x. x)).ordered c.talk.new.ends.up_tx, (g.met.L.Rx.LinkRx g.world.𝓛 g.world.𝓜 g.world.𝓡 ((λ s x. x), (λ x. x), (λ x. x), λ x. x)).ordered c.talk.new.ends.up_rx, (g.met.L.Tx.LinkTx g.world.𝓛 g.world.𝓜 g.world.𝓡 ((λ s x. x), (λ x. x), (λ x. x), λ x. x)).ordered c.talk.new.ends.down_tx, (g.met.L.Rx.LinkRx g.world.𝓛 g.world.𝓜 g.world.𝓡 ((λ s x. x), (λ x. x), (λ x. x), λ x. x)).ordered c.talk.new.ends.down_rx),
+      was_one c.args.session w one,
+    )
 
 pub returns-in-Err-talk-clause-bad : goal.returns-in-Err-talk-clause-bad
 returns-in-Err-talk-clause-bad g c = λ offset e.
@@ -84,7 +88,8 @@ returns-in-Err-talk-clause-bad g c = λ offset e.
     let zero : cuts_of w ≡ 0 = c.in-Err-talk.ensures.uncut (λ x. let no : ⊥ = cc in no) in
     let p = past_of_views c.args.session w in (
       p,
-      given_back (g.L.Linker.links c.args.links.now) b (g.L.Linker.links c.settle.new.self) c.args.session w c.in-Ok-connect.ensures.begun.made c.settle.ensures.cuts c.settle.ensures.past (omega (arith, zero)),
+      given_back (g.L.Linker.links c.args.links.now) b (g.L.Linker.links c.settle.new.self) c.args.session w c.in-Ok-connect.ensures.begun.made c.settle.ensures.cuts c.settle.ensures.past (omega (arith, zero)) (begun_order (g.L.Linker.links c.args.links.now) (g.L.Linker.links c.connect.new.links) c.args.session (views g.L.Tx.LinkTx.sending g.L.Rx.LinkRx.receiving c.in-Ok-connect.ends) w c.in-Ok-connect.ensures.begun c.talk.ensures.same)
+          ((g.met.L.Tx.LinkTx g.world.𝓛 g.world.𝓜 g.world.𝓡 ((λ s x. x), (λ x. x), (λ x. x), λ x. x)).ordered c.talk.new.ends.up_tx, (g.met.L.Rx.LinkRx g.world.𝓛 g.world.𝓜 g.world.𝓡 ((λ s x. x), (λ x. x), (λ x. x), λ x. x)).ordered c.talk.new.ends.up_rx, (g.met.L.Tx.LinkTx g.world.𝓛 g.world.𝓜 g.world.𝓡 ((λ s x. x), (λ x. x), (λ x. x), λ x. x)).ordered c.talk.new.ends.down_tx, (g.met.L.Rx.LinkRx g.world.𝓛 g.world.𝓜 g.world.𝓡 ((λ s x. x), (λ x. x), (λ x. x), λ x. x)).ordered c.talk.new.ends.down_rx),
       not_cut c.args.session w zero,
       λ shown. bad_over theirs mine b.told b.shown (purpose_value c.args.purpose) w p offset refl refl refl refl
           (subst (λ (q : Purpose). IsBadToPrimary w.up_rx.received w.up_rx.closed offset ⊎ HasBadAnswer theirs b.told b.shown q (unbegun mine) w offset) c.in-Ok.ensures.purpose ((c.in-Err-talk.ensures.bad offset e).1 (c.in-Ok-connect.ensures.begun.made.shown ∙ shown))),
@@ -103,5 +108,6 @@ pub returns-in-Err-talk-clause-memory : goal.returns-in-Err-talk-clause-memory
 returns-in-Err-talk-clause-memory g c = λ e.
     let w = views g.L.Tx.LinkTx.sending g.L.Rx.LinkRx.receiving c.talk.new.ends in
     let zero : cuts_of w ≡ 0 = c.in-Err-talk.ensures.uncut (λ x. let no : ⊥ = cc in no) in
-    let made = given_back (g.L.Linker.links c.args.links.now) (g.L.Linker.links c.connect.new.links) (g.L.Linker.links c.settle.new.self) c.args.session w c.in-Ok-connect.ensures.begun.made c.settle.ensures.cuts c.settle.ensures.past (omega (arith, zero)) in
-    (past_of_views c.args.session w ∷ [], made, (not_cut c.args.session w zero, tt))
+    let made = given_back (g.L.Linker.links c.args.links.now) (g.L.Linker.links c.connect.new.links) (g.L.Linker.links c.settle.new.self) c.args.session w c.in-Ok-connect.ensures.begun.made c.settle.ensures.cuts c.settle.ensures.past (omega (arith, zero)) (begun_order (g.L.Linker.links c.args.links.now) (g.L.Linker.links c.connect.new.links) c.args.session (views g.L.Tx.LinkTx.sending g.L.Rx.LinkRx.receiving c.in-Ok-connect.ends) w c.in-Ok-connect.ensures.begun c.talk.ensures.same)
+    ((g.met.L.Tx.LinkTx g.world.𝓛 g.world.𝓜 g.world.𝓡 ((λ s x. x), (λ x. x), (λ x. x), λ x. x)).ordered c.talk.new.ends.up_tx, (g.met.L.Rx.LinkRx g.world.𝓛 g.world.𝓜 g.world.𝓡 ((λ s x. x), (λ x. x), (λ x. x), λ x. x)).ordered c.talk.new.ends.up_rx, (g.met.L.Tx.LinkTx g.world.𝓛 g.world.𝓜 g.world.𝓡 ((λ s x. x), (λ x. x), (λ x. x), λ x. x)).ordered c.talk.new.ends.down_tx, (g.met.L.Rx.LinkRx g.world.𝓛 g.world.𝓜 g.world.𝓡 ((λ s x. x), (λ x. x), (λ x. x), λ x. x)).ordered c.talk.new.ends.down_rx) in
+    (past_of_views c.args.session w ∷ [], made, (not_cut c.args.session w zero, tt), omega arith)

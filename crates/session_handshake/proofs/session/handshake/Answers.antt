@@ -6,19 +6,19 @@ use Rattle.receiver_server.specs.declared.step.Handshake.{Handshake}
 use Rattle.receiver_server.specs.Answers.{answer_frame}
 use Rattle.session_handshake.specs.Exchanges.{views}
 use Rattle.session_handshake.specs.Connections.{past_of_views, IsAnsweredOver}
-use Rattle.session_handshake.proofs.Made.{made_none, made_on, count_push}
+use Rattle.session_handshake.proofs.Made.{made_none, made_on, count_push, length_push}
 use Rattle.session_handshake.proofs.Greets.{not_cut, over_of, ends_answered}
-use Rattle.session_handshake.proofs.Sessions.{made_since, made_all, three_at_most, no_link_cut, met_answer, met_bad, four_cut}
+use Rattle.session_handshake.proofs.Sessions.{made_since, made_all, three_at_most, no_link_cut, met_answer, met_bad, four_cut, in_turn_since, one_more_since, as_many_since}
 use Rattle.session_handshake.proofs.session.handshake.Goals as goal
 
 pub loop-cuts-init : goal.loop-cuts-init
-loop-cuts-init g c = ([], made_none (g.L.Linker.links c.args.links.now) c.args.session, refl, omega arith)
+loop-cuts-init g c = ([], made_none (g.L.Linker.links c.args.links.now) c.args.session, refl, refl, omega arith)
 
 pub loop-cuts-preserved : goal.loop-cuts-preserved
 loop-cuts-preserved g c =
     let inv = c.loop-cuts.invariant in
     let cut = c.in-Err-Cut.ensures.cut (ap Err c.in-Err-Cut.field-0-is) in
-    (inv.0 ++ cut.0 ∷ [], made_on (g.L.Linker.links c.args.links.now) (g.L.Linker.links c.loop-cuts.links) (g.L.Linker.links c.greet.new.links) c.args.session inv.0 (cut.0 ∷ []) inv.1 cut.1, count_push inv.0 cut.0 c.loop-cuts.cuts inv.2 cut.2, omega arith)
+    (inv.0 ++ cut.0 ∷ [], made_on (g.L.Linker.links c.args.links.now) (g.L.Linker.links c.loop-cuts.links) (g.L.Linker.links c.greet.new.links) c.args.session inv.0 (cut.0 ∷ []) inv.1 cut.1, count_push inv.0 cut.0 c.loop-cuts.cuts inv.2 cut.2, length_push inv.0 cut.0 c.loop-cuts.cuts inv.3, omega arith)
 
 pub settled-requires-clause-open : goal.settled-requires-clause-open
 settled-requires-clause-open g c κs within = (g.L.Linker.links c.loop-cuts.links, c.in-Ok.ensures.open)
@@ -120,3 +120,49 @@ pub returns-clause-link_cut : goal.returns-clause-link_cut
 returns-clause-link_cut g c =
     let inv = c.loop-cuts.invariant in
     (λ _. four_cut (g.L.Linker.links c.args.links.now) (g.L.Linker.links c.loop-cuts.links) c.args.session inv.0 inv.1 (omega arith), λ _. refl)
+
+pub returns-in-Ok-clause-in_turn : goal.returns-in-Ok-clause-in_turn
+returns-in-Ok-clause-in_turn g c =
+    let m = g.L.Linker.links c.loop-cuts.links in
+    let v = views g.L.Tx.LinkTx.sending g.L.Rx.LinkRx.receiving c.in-Ok.greeted.ends in
+    let inv = c.loop-cuts.invariant in
+    in_turn_since (g.L.Linker.links c.args.links.now) m (g.L.Linker.links c.settled.new.links) c.args.session inv.0 (past_of_views c.args.session v ∷ []) inv.1 (c.settled.ensures.made m c.in-Ok.ensures.open) (inv.3 ∙ sym inv.2) (omega arith)
+
+pub returns-in-Ok-clause-answered : goal.returns-in-Ok-clause-answered
+returns-in-Ok-clause-answered g c =
+    let m = g.L.Linker.links c.loop-cuts.links in
+    let v = views g.L.Tx.LinkTx.sending g.L.Rx.LinkRx.receiving c.in-Ok.greeted.ends in
+    let inv = c.loop-cuts.invariant in
+    one_more_since (g.L.Linker.links c.args.links.now) m (g.L.Linker.links c.settled.new.links) c.args.session inv.0 (past_of_views c.args.session v) inv.1 (c.settled.ensures.made m c.in-Ok.ensures.open) (inv.3 ∙ sym inv.2)
+    (not_cut c.args.session v c.in-Ok.ensures.open.uncut)
+
+pub returns-in-Err-BadFrame-clause-in_turn : goal.returns-in-Err-BadFrame-clause-in_turn
+returns-in-Err-BadFrame-clause-in_turn g c =
+    let inv = c.loop-cuts.invariant in
+    let bad = c.in-Err-BadFrame.ensures.bad c.in-Err-BadFrame.offset c.in-Err-BadFrame.field-0-is in
+    in_turn_since (g.L.Linker.links c.args.links.now) (g.L.Linker.links c.loop-cuts.links) (g.L.Linker.links c.greet.new.links) c.args.session inv.0 (bad.0 ∷ []) inv.1 bad.1 (inv.3 ∙ sym inv.2) (omega arith)
+
+pub returns-in-Err-BadFrame-clause-bad_last : goal.returns-in-Err-BadFrame-clause-bad_last
+returns-in-Err-BadFrame-clause-bad_last g c = λ offset e.
+    let inv = c.loop-cuts.invariant in
+    let bad = c.in-Err-BadFrame.ensures.bad c.in-Err-BadFrame.offset c.in-Err-BadFrame.field-0-is in
+    one_more_since (g.L.Linker.links c.args.links.now) (g.L.Linker.links c.loop-cuts.links) (g.L.Linker.links c.greet.new.links) c.args.session inv.0 bad.0 inv.1 bad.1 (inv.3 ∙ sym inv.2) bad.2
+
+pub returns-in-Err-NoMemory-clause-in_turn : goal.returns-in-Err-NoMemory-clause-in_turn
+returns-in-Err-NoMemory-clause-in_turn g c =
+    let inv = c.loop-cuts.invariant in
+    let more = c.in-Err-NoMemory.ensures.memory (ap Err c.in-Err-NoMemory.field-0-is) in
+    in_turn_since (g.L.Linker.links c.args.links.now) (g.L.Linker.links c.loop-cuts.links) (g.L.Linker.links c.greet.new.links) c.args.session inv.0 more.0 inv.1 more.1 (inv.3 ∙ sym inv.2) more.3
+
+pub returns-clause-in_turn : goal.returns-clause-in_turn
+returns-clause-in_turn g c =
+    let inv = c.loop-cuts.invariant in
+    let same = as_many_since (g.L.Linker.links c.args.links.now) (g.L.Linker.links c.loop-cuts.links) c.args.session inv.0 inv.1 (inv.3 ∙ sym inv.2) in
+    omega (arith, same)
+
+pub returns-clause-cut_off : goal.returns-clause-cut_off
+returns-clause-cut_off g c =
+    let inv = c.loop-cuts.invariant in
+    let same = as_many_since (g.L.Linker.links c.args.links.now) (g.L.Linker.links c.loop-cuts.links) c.args.session inv.0 inv.1 (inv.3 ∙ sym inv.2) in
+    let four = four_cut (g.L.Linker.links c.args.links.now) (g.L.Linker.links c.loop-cuts.links) c.args.session inv.0 inv.1 (omega arith) in
+    λ _. same ∙ four

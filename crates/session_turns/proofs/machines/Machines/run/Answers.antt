@@ -19,6 +19,8 @@ loop-ended-init g c = record {
   down = (not_looked _, not_seen _);
   kept = λ n entry h. h;
   still = λ n h. h;
+  later = g.E.EntrySource.later_same c.args.entries.now;
+  site_later = g.S.EntrySink.later_same c.args.site.now;
   sends = λ told from h. h;
   cuts = λ uncut sending receiving. record { sending = sending ∙ sym (ap (λ (b : Bool). if b then 1 else 0) uncut); receiving = receiving };
   reigns = λ told. refl;
@@ -46,6 +48,8 @@ loop-ended-preserved g c =
       down = (looked_on _ _ _ v.down.0 e.down.0, saw_on _ _ _ v.down.1 e.down.1);
       kept = λ n entry h. e.kept n entry (v.kept n entry h);
       still = λ n h. e.still n (v.still n h);
+      later = g.E.EntrySource.later_still c.args.entries.now c.loop-ended.entries c.turn.new.entries v.later e.later;
+      site_later = g.S.EntrySink.later_still c.args.site.now c.loop-ended.site c.turn.new.site v.site_later e.site_later;
       sends = λ told from h. e.sends (v.up.0.told ∙ told) from (v.sends told from h);
       cuts = λ uncut sending receiving. tells_on c.in-Ok-On.field-0 m.cut (tx c.turn.new.ends.up_tx) (rx c.turn.new.ends.down_rx) c.in-Ok-On.field-0-is (e.cuts v.empty (v.cuts uncut sending receiving));
       reigns = λ told. e.reigns (v.up.0.told ∙ told) ∙ v.reigns told;
@@ -102,3 +106,15 @@ returns-in_default-clause-reigns g c = λ told. let v = c.loop-ended.invariant i
 
 pub returns-in_default-clause-purpose : goal.returns-in_default-clause-purpose
 returns-in_default-clause-purpose g c = c.turn.ensures.purpose ∙ c.loop-ended.invariant.purpose
+
+pub returns-in_default-clause-later : goal.returns-in_default-clause-later
+returns-in_default-clause-later g c = g.E.EntrySource.later_still c.args.entries.now c.loop-ended.entries c.turn.new.entries c.loop-ended.invariant.later c.turn.ensures.later
+
+pub returns-in_default-2-clause-later : goal.returns-in_default-2-clause-later
+returns-in_default-2-clause-later g c = g.E.EntrySource.later_still c.args.entries.now c.loop-ended.entries c.turn.new.entries c.loop-ended.invariant.later c.turn.ensures.later
+
+pub returns-in_default-clause-site_later : goal.returns-in_default-clause-site_later
+returns-in_default-clause-site_later g c = g.S.EntrySink.later_still c.args.site.now c.loop-ended.site c.turn.new.site c.loop-ended.invariant.site_later c.turn.ensures.site_later
+
+pub returns-in_default-2-clause-site_later : goal.returns-in_default-2-clause-site_later
+returns-in_default-2-clause-site_later g c = g.S.EntrySink.later_still c.args.site.now c.loop-ended.site c.turn.new.site c.loop-ended.invariant.site_later c.turn.ensures.site_later

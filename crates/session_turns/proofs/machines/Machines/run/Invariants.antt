@@ -28,6 +28,8 @@ invariant-loop-ended g l =
       down : SendingLooked (tx was.ends.down_tx) (tx l.ends.down_tx) × ReceivingLooked (rx was.ends.up_rx) (rx l.ends.up_rx);
       kept : (n : ℕ) (entry : List ℕ) → g.E.EntrySource.is_entry was.entries n entry → g.E.EntrySource.is_entry l.entries n entry;
       still : (n : ℕ) → g.E.EntrySource.ready was.entries n → g.E.EntrySource.ready l.entries n;
+      later : g.E.EntrySource.later was.entries l.entries;
+      site_later : g.S.EntrySink.later was.site l.site;
       sends : IsTrue (tx was.ends.up_tx).told → (from : ℕ) → HasGiven (g.E.EntrySource.is_entry was.entries) from l.length was.self.source (tx was.ends.up_tx).sent
           → HasGiven (g.E.EntrySource.is_entry l.entries) from l.length l.self.source (tx l.ends.up_tx).sent;
       cuts : was.self.cut ≡ false → (tx was.ends.up_tx).cuts ≡ 0 → (rx was.ends.down_rx).cuts ≡ 0 → HasCuts l.self.cut (tx l.ends.up_tx) (rx l.ends.down_rx);
