@@ -6,7 +6,7 @@ use std::alloc::Global;
 use std::process::Abort;
 
 /// How many bytes are written and read at once.
-const ROW: u32 = 100;
+const ROW: usize = 100;
 
 /// How many rows a long file has: three pieces, the last of them short.
 const LONG: u16 = 1500;
@@ -15,7 +15,7 @@ const LONG: u16 = 1500;
 const SHORT: u16 = 3;
 
 /// Makes room for a write and does it, where the place isn't past the end. Without memory it fails too.
-fn put(disk: &mut ReadAhead<MemDisk>, file: u32, at: u64, bytes: &[u8]) -> Result<bool, Failed> {
+fn put<D: Disk>(disk: &mut D, file: u32, at: u64, bytes: &[u8]) -> Result<bool, Failed> {
     let Ok(()) = disk.room(file, 1, bytes.len() as u64) else {
         return Err(Failed);
     };
@@ -28,21 +28,21 @@ fn put(disk: &mut ReadAhead<MemDisk>, file: u32, at: u64, bytes: &[u8]) -> Resul
 }
 
 /// Whether these are the bytes at a place of a file, at most a row.
-fn has(disk: &mut ReadAhead<MemDisk>, file: u32, at: u32, bytes: &[u8]) -> Result<bool, Failed> {
+fn has<D: Disk>(disk: &mut D, file: u32, at: u32, bytes: &[u8]) -> Result<bool, Failed> {
     let end = disk.len(file)?;
     let at = u64::from(at);
-    if bytes.len() > ROW as usize || end < at + bytes.len() as u64 {
+    if bytes.len() > ROW || end < at + bytes.len() as u64 {
         return Ok(false);
     }
-    let mut buf = [0; ROW as usize];
+    let mut buf = [0; ROW];
     let part = &mut buf[..bytes.len()];
     disk.read_at(file, at, part)?;
     Ok(&*part == bytes)
 }
 
 /// The row of a file that begins so far from its start, by a number.
-fn row(file: u32, at: u32, number: u32) -> [u8; ROW as usize] {
-    let mut bytes = [0; ROW as usize];
+fn row(file: u32, at: u32, number: u32) -> [u8; ROW] {
+    let mut bytes = [0; ROW];
     for (i, byte) in bytes.iter_mut().enumerate() {
         *byte = ((u64::from(file) + u64::from(at) + u64::from(number) + i as u64) % 251) as u8;
     }
@@ -56,26 +56,27 @@ fn write_row(rt: &impl Abort, disk: &mut ReadAhead<MemDisk>, file: u32, at: u32,
     holds(rt, is_put == Ok(true), b"a row that is written");
 }
 
-/// Such a row is read whole, and from its middle on.
+/// Such a row is read whole, and its first half.
 fn is_row(rt: &impl Abort, disk: &mut ReadAhead<MemDisk>, file: u32, at: u32, number: u32) {
     let bytes = row(file, at, number);
     let is_whole = has(disk, file, at, &bytes);
     holds(rt, is_whole == Ok(true), b"a row that is read");
-    let is_half = has(disk, file, at, &bytes[..50]);
+    let half = bytes.chunks(50).next().expect(rt, "a row");
+    let is_half = has(disk, file, at, half);
     holds(rt, is_half == Ok(true), b"the half of a row");
 }
 
 /// Writes so many rows of a file.
 fn fill(rt: &impl Abort, disk: &mut ReadAhead<MemDisk>, file: u32, rows: u16, number: u32) {
     for i in 0..rows {
-        write_row(rt, disk, file, ROW * u32::from(i), number);
+        write_row(rt, disk, file, ROW as u32 * u32::from(i), number);
     }
 }
 
 /// The file has these rows.
 fn is_filled(rt: &impl Abort, disk: &mut ReadAhead<MemDisk>, file: u32, rows: u16, number: u32) {
     for i in 0..rows {
-        is_row(rt, disk, file, ROW * u32::from(i), number);
+        is_row(rt, disk, file, ROW as u32 * u32::from(i), number);
     }
 }
 
@@ -130,7 +131,7 @@ fn are_read_by(rt: &impl Abort, alloc: Global, calls: u64) -> bool {
     disk.fuse(calls);
     let mut read = true;
     for i in 0..LONG {
-        let at = ROW * u32::from(i);
+        let at = ROW as u32 * u32::from(i);
         read = read && has(&mut disk, 1, at, &row(1, at, 1)) == Ok(true);
     }
     holds(rt, read == (disk.faults() == 0), b"a fault that is counted");

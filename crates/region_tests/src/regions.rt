@@ -298,7 +298,8 @@ fn refused_by_the_file<D: Disk>(rt: &impl Abort, alloc: Global, disk: &mut D) {
     let (_, blocks) = at_epoch(rt, alloc, disk);
     let opened = open(alloc, disk, 1 << 31, &[]);
     let offset = 4096 * u64::from(blocks);
-    let is_refused = matches!(opened, Err(RegionError::NotAFile { file: FILE, offset: at }) if at == offset);
+    let is_refused =
+        matches!(opened, Err(RegionError::NotAFile { file: FILE, offset: at }) if at == offset);
     assert!(rt; is_refused);
 }
 
