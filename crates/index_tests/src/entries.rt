@@ -1,4 +1,6 @@
 // What entries do, read again from where an index says that their parts stand.
+ghost use Rattle.std.specs.Prelude.{◌≡◌};
+
 use crate::regions::written;
 use entry_index::{EntryIndex, IndexError, PartPlace};
 use gvn_key::terms::Update;
