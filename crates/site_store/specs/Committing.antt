@@ -46,9 +46,9 @@ pub record IsSameIndex (old new : EntryIndex) : Type 0 where
   pub regions : new.regions ≡ old.regions
   pub places : new.places.items ≡ old.places.items
 
--- its places are in the index, and its updates are made
+-- the places behind all that its journals had are in the index, and its updates are made
 pub record Enters (old new : Memory) (t : code_transaction.Transaction) (parts : PartRecords) : Type 0 where
-  pub places : AddsPlaces parts new.journals.journals.items old.entries new.entries
+  pub places : AddsPlaces parts old.journals.journals.items old.entries new.entries
   pub globals : joined new.globals ≡ fold apply (joined old.globals) t.updates
   pub changed : AreChanged old.globals new.globals
 

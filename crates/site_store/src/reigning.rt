@@ -1,6 +1,12 @@
 //! Beginning a reign.
-ghost use Rattle.std.specs.Prelude.{◌≡◌, ◌⊎◌, ◌<◌, ◌^◌, ◌++◌, ◌∷◌, [], ℕ, Bool, true, length, Some, IfOk, IfSome, OnOk, OnErr, IsErrOf, IsSome};
-ghost use Rattle.global_defs.specs.declared.limits.TheConstants.{NUMBERS_END};
+ghost use Rattle.std.specs.Prelude.{◌≡◌, ◌⊎◌, ◌<◌, ◌≤◌, ◌+◌, ◌^◌, ◌++◌, ◌∷◌, [], ℕ, Bool, true, length, take, Some, IfOk, IfSome, OnOk, OnErr, IsErrOf, IsSome};
+ghost use Rattle.std.specs.List.{AllByRecursion};
+ghost use Rattle.global_defs.specs.declared.limits.TheConstants.{MOST_REIGNS, NUMBERS_END};
+ghost use Rattle.global_defs.specs.Entry as defs;
+ghost use Rattle.global_defs.specs.Fields.{IsReign};
+ghost use Rattle.journal_defs.specs.Surviving.{reigns};
+ghost use Rattle.site_defs.specs.Fronts.{with_sequence};
+ghost use Rattle.site_store.specs.Following.{with_adopted};
 ghost use Rattle.disk_defs.specs.Disk.{Image, AtEachMoment, MayFail};
 ghost use Rattle.gvn_model.specs.Reigns.{stamp_value, reign_value};
 ghost use Rattle.journal_defs.specs.Instance.{Reigned, site_name};
@@ -86,6 +92,48 @@ impl Memory {
                 self.stamp = Some(kept);
                 Ok(())
             }
+            Err(InstanceError::Failed) => Err(SiteError::Failed {
+                fault: disk.faults(),
+            }),
+            Err(InstanceError::NoMemory) => Err(SiteError::NoMemory),
+            Err(InstanceError::NotARecord { .. }) => unreachable!(),
+        }
+    }
+
+    /// Puts the REIGN of a primary on the disk: one that begins with the site's next entry, behind all that survive. The site's own reign,
+    /// if one was begun, is over.
+    ///
+    /// # Errors
+    /// `Failed` only where the disk's count rose; a crash may then find the reign all the same. `NoMemory`, and then nothing was
+    /// written, and the site goes on.
+    pub(crate) fn append_reign<D: Disk>(
+        &mut self,
+        disk: &mut D,
+        reign: &Reign,
+    ) -> Result<(), SiteError>
+        requires ready { IsReady (D.disk disk.old) self.old }
+        requires form { IsReign (reign_value reign.now) }
+        requires start { reign.now.start ≡ count_of self.old + 1 }
+        requires no_reign_past { AllByRecursion (λ (r : defs.Reign). r.start ≤ count_of self.old) (reigns self.old.instance.records) }
+        requires few { length (reigns self.old.instance.records) < MOST_REIGNS }
+        ensures ready { OnOk result (IsReady (D.disk disk.new) self.new) }
+        ensures records { OnOk result (self.new.instance.records ≡ self.old.instance.records ++ Reigned (reign_value reign.now) ∷ []) }
+        ensures kept { OnErr result (self.new.instance.records ≡ self.old.instance.records) }
+        ensures others { self.new ≡ record self.old { instance = self.new.instance } }
+        ensures begun { OnOk result ((told : Bool) (c : Contents) (h : ℕ) → IsOpen (D.disk disk.old) told c h self.old → IsOpen (D.disk disk.new) told (with_adopted (reign_value reign.now) c) h self.new) }
+        // at each moment each image stands for the hardened entries, with the reign or without
+        ensures any_moment { (c : Contents) (h : ℕ) → IsOpen (D.disk disk.old) true c h self.old → AtEachMoment (D.disk disk.old) (D.disk disk.new) (λ f. IsSite f (with_sequence c (take h c.sequence)) ⊎ IsSite f (with_adopted (reign_value reign.now) (with_sequence c (take h c.sequence)))) }
+        ensures left { (c : Contents) (h : ℕ) → IsOpen (D.disk disk.old) true c h self.old → AtEachMoment (D.disk disk.old) (D.disk disk.new) (λ f. IsSiteWith f (bare (with_sequence c (take h c.sequence))) ⊎ IsSiteWith f (bare (with_adopted (reign_value reign.now) (with_sequence c (take h c.sequence))))) }
+        ensures unwritten { IsErrOf result SiteError.NoMemory → AtEachMoment (D.disk disk.old) (D.disk disk.new) (Image (D.disk disk.old)) }
+        ensures goes_on { IsErrOf result SiteError.NoMemory → IsReady (D.disk disk.new) self.new }
+        ensures stays_open { IsErrOf result SiteError.NoMemory → (told : Bool) (c : Contents) (h : ℕ) → IsOpen (D.disk disk.old) told c h self.old → IsOpen (D.disk disk.new) told c h self.new }
+        ensures still_told { IsSome (D.disk disk.old).content → IsSome (D.disk disk.new).content }
+        ensures simulated { (D.disk disk.new).simulated ≡ (D.disk disk.old).simulated }
+        ensures faults { MayFail (D.disk disk.old).faults (D.disk disk.new).faults (λ fault. IsErrOf result (SiteError.Failed fault)) }
+        ensures causes { OnErr result (((fault : ℕ) × IsErrOf result (SiteError.Failed fault)) ⊎ IsErrOf result SiteError.NoMemory) }
+    {
+        match self.instance.reign(disk, reign) {
+            Ok(()) => Ok(()),
             Err(InstanceError::Failed) => Err(SiteError::Failed {
                 fault: disk.faults(),
             }),

@@ -68,15 +68,17 @@ const LAST_NUMBER: u64 = global_defs::limits::NUMBERS_END - 1;
 /// number, and changes nothing. After `NoMemory` the site goes on as it was.
 #[derive(Drop)]
 pub struct Site<D: Disk> {
-    disk: D,
+    pub(crate) disk: D,
     /// What its files stand for, and its files, open for calls.
-    inner: Memory,
+    pub(crate) inner: Memory,
     /// How many entries there are, and their reigns.
-    history: History,
+    pub(crate) history: History,
     /// For each reign the least start of that and the later ones, by which an entry's reign is found.
-    starts: Vec<u64>,
+    pub(crate) starts: Vec<u64>,
+    /// The reign of a primary that the next entry begins.
+    pub(crate) remembered: Option<Reign>,
     /// The number of the failed call, on the disk, after which the site stopped.
-    fault: Option<u64>,
+    pub(crate) fault: Option<u64>,
 }
 
 /// A reign that is to begin, with the copies that go to the site and to the caller.
@@ -106,7 +108,11 @@ fn history_in(alloc: Global, site: &Memory) -> Result<(History, Vec<u64>), NoMem
 }
 
 /// Adds a reign to a history, and its start behind the others.
-fn add_reign(history: &mut History, starts: &mut Vec<u64>, reign: Reign) -> Result<(), NoMemory>
+pub(crate) fn add_reign(
+    history: &mut History,
+    starts: &mut Vec<u64>,
+    reign: Reign,
+) -> Result<(), NoMemory>
     ensures length { history.new.length ≡ history.old.length }
     ensures reigns { OnOk result (history.new.reigns ≡ history.old.reigns ++ reign_value reign ∷ []) }
     ensures starts { OnOk result (starts.new.items ≡ starts.old.items ++ reign.start ∷ []) }
@@ -123,7 +129,7 @@ fn add_reign(history: &mut History, starts: &mut Vec<u64>, reign: Reign) -> Resu
 }
 
 /// Takes a history's last reign and its start away again.
-fn drop_reign(history: &mut History, starts: &mut Vec<u64>)
+pub(crate) fn drop_reign(history: &mut History, starts: &mut Vec<u64>)
     requires { 0 < length history.old.reigns }
     ensures length { history.new.length ≡ history.old.length }
     ensures reigns { (rs : List defs.Reign) (r : defs.Reign) → history.old.reigns ≡ rs ++ r ∷ [] → history.new.reigns ≡ rs }
@@ -212,6 +218,7 @@ impl<D: Disk> Site<D> {
                 inner,
                 history,
                 starts,
+                remembered: None,
                 fault: None,
             }),
             Err(NoMemory) => Err((disk, SiteError::NoMemory)),
@@ -219,11 +226,12 @@ impl<D: Disk> Site<D> {
     }
 
     /// Stops the site where a call failed.
-    fn note(&mut self, error: SiteError)
+    pub(crate) fn note(&mut self, error: SiteError)
         ensures disk { disk_of self.new ≡ disk_of self.old }
         ensures memory { memory_of self.new ≡ memory_of self.old }
         ensures history { self.new.history ≡ self.old.history }
         ensures starts { self.new.starts.items ≡ self.old.starts.items }
+        ensures remembered { self.new.remembered ≡ self.old.remembered }
         ensures stops { (fault : ℕ) → error ≡ SiteError.Failed fault → HasStopped fault self.new }
         ensures goes_on { ((fault : ℕ) → error ≡ SiteError.Failed fault → ⊥) → self.new ≡ self.old }
     {
@@ -301,7 +309,10 @@ impl<D: Disk> Site<D> {
         } = self.next_reign()?;
         add_reign(&mut self.history, &mut self.starts, added)?;
         match self.inner.begin_reign(&mut self.disk, &reign, kept) {
-            Ok(()) => Ok(stamp),
+            Ok(()) => {
+                self.remembered = None;
+                Ok(stamp)
+            }
             Err(error) => {
                 drop_reign(&mut self.history, &mut self.starts);
                 self.note(error);
