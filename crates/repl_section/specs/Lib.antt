@@ -2,3 +2,4 @@ pub mod Reigns
 pub mod Replies
 pub mod Lines
 pub mod Deciding
+pub mod Followers

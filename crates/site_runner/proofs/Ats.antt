@@ -16,7 +16,8 @@ use Rattle.world_defs.specs.World as world
 use Rattle.command_defs.specs.Commands.{Name}
 use Rattle.world_defs.specs.World.{Place, Covers, CoversSo, has_failed, has_failed_on, Kept, StandAfter, StandAsBefore}
 use Rattle.site_defs.specs.Contents.{Contents, Leftover, Standing, NO_LEFTOVER, nothing, is_made, bare}
-use Rattle.world_defs.specs.Answers.{Cause, Refusal, Section, Done, Refused, DiskFault, NotAFile, Ran, Typed, line, cause_text, refusal_line, fault_line, damage_line}
+use Rattle.world_defs.specs.Sections.{Section}
+use Rattle.world_defs.specs.Answers.{Cause, Refusal, Done, Refused, DiskFault, NotAFile, Ran, Typed, line, cause_text, refusal_line, fault_line, damage_line}
 use Rattle.world_defs.specs.Row.{Row, first, in_state, or_else, refused_with, refusal_in}
 use Rattle.site_defs.specs.Fronts.{with_sequence}
 use Rattle.site_defs.specs.Opening.{IsBehind}

@@ -12,7 +12,8 @@ use Rattle.world_defs.specs.Answers.{NoSite, Refusal, Refused, refusal_line}
 use Rattle.world_defs.specs.Row.{Row}
 use Rattle.world_defs.specs.Meaning.{apart, Meaning, No, Acts, Target, On, Open, refusing, at_found, there, row_at, meant}
 use Rattle.world_defs.specs.rows.{target, meaning}
-use Rattle.world_defs.specs.Step.{Goes, LeftBy, LeftByRow, LeavesOld, IsCut}
+use Rattle.world_defs.specs.Changes.{LeftBy, LeavesOld}
+use Rattle.world_defs.specs.Step.{Goes, LeftByRow, IsCut}
 use Rattle.world_defs.specs.Ties.{Matches}
 use Rattle.world_laws.proofs.Builds as builds
 use Rattle.site_runner.specs.declared.slot.Slot.{Slot}

@@ -20,7 +20,8 @@ use Rattle.site_defs.specs.Lists.{Among}
 use Rattle.world_defs.specs.World as world
 use Rattle.world_defs.specs.World.{Place, StandAfter}
 use Rattle.site_defs.specs.Contents.{Contents, Leftover, Standing, NO_LEFTOVER, bare}
-use Rattle.world_defs.specs.Answers.{Section, line}
+use Rattle.world_defs.specs.Sections.{Section}
+use Rattle.world_defs.specs.Answers.{line}
 use Rattle.world_defs.specs.Row.{in_state, why_not_primary, refusal_in}
 use Rattle.world_defs.specs.Changes.{in_new_state}
 use Rattle.site_defs.specs.Fronts.{with_sequence, IsFrontOf, turn_of}

@@ -27,7 +27,8 @@ use Rattle.world_defs.specs.Answers.{NoBefore, NeedForward, Refusal, Refused, No
 use Rattle.world_defs.specs.Changes.{in_new_state, Fails, KeptUnknown}
 use Rattle.world_defs.specs.Row.{first, refused_with, refusal_in, in_state, why_not_down, where_known}
 use Rattle.world_defs.specs.Shown.{HasNoLayout}
-use Rattle.world_defs.specs.Step.{LeftBy, LeftByRow}
+use Rattle.world_defs.specs.Changes.{LeftBy}
+use Rattle.world_defs.specs.Step.{LeftByRow}
 use Rattle.world_defs.specs.Without.{IsFirstWithout, needing, MayNeed}
 use Rattle.world_defs.specs.rows.Recover.{IsUnrecovered, RecoveryRefusedBy, unrecovered}
 use Rattle.world_defs.specs.rows.Rollback.{RollbackRefusedBy, before_cause, no_before}

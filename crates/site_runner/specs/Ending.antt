@@ -1,12 +1,16 @@
 -- How commands on sites end, and what sites are behind them.
-use Rattle.std.specs.Prelude.{◌≡◌, Bool, true, false, List, [], ◌∷◌, ◌++◌, ℕ}
+use Rattle.std.specs.Prelude.{◌≡◌, ◌⊎◌, Bool, true, false, List, [], ◌∷◌, ◌++◌, ℕ}
 use Rattle.disk_defs.specs.Disk.{View}
 use Rattle.command_defs.specs.Commands.{Name}
 use Rattle.repl_section.specs.declared.reign.Reign as code
+use Rattle.site_store.specs.declared.memory.Memory.{Memory}
+use Rattle.site_store.specs.declared.site.Site as store
+use Rattle.site_store.specs.Owning.{memory_of, IsGoing}
 use Rattle.world_defs.specs.Answers.{NoFile, line, cause_text}
 use Rattle.site_runner.specs.declared.ending.Ended.{Ended}
 use Rattle.site_runner.specs.declared.ending.Ended.TheVariants as ends
-use Rattle.site_runner.specs.Sites.{Site, Down, Primary, Failed, reign_in, IsReadyOpen}
+use Rattle.site_runner.specs.declared.secondary.Secondary.{Secondary}
+use Rattle.site_runner.specs.Sites.{Site, State, Following, Down, Primary, Second, Failed, reign_in, following_in, IsReadyOpen}
 
 abbrev pub is_done_at : Ended → Bool
 is_done_at ends.Done = true
@@ -17,9 +21,13 @@ is_done_at (ends.Failed fault) = false
 abbrev pub down : Name → Site
 down name = record { name = name; state = Down }
 
--- one that is open
+-- one that is a primary
 abbrev pub primary : {D : Type 0} → Name → code.Reign D → Site
 primary name r = record { name = name; state = Primary (reign_in r) }
+
+-- one that is a secondary
+abbrev pub secondary : {D : Type 0} → Name → Secondary D → Site
+secondary name s = record { name = name; state = Second (following_in s) }
 
 -- one that has failed
 abbrev pub failed : Name → ℕ → Site
@@ -36,6 +44,37 @@ abbrev pub primary_after : {D : Type 0} → Name → code.Reign D → Ended → 
 primary_after name r ends.Done = primary name r
 primary_after name r ends.Undone = primary name r
 primary_after name r (ends.Failed fault) = failed name fault
+
+-- a site that was a secondary
+abbrev pub secondary_after : {D : Type 0} → Name → Secondary D → Ended → Site
+secondary_after name s ends.Done = secondary name s
+secondary_after name s ends.Undone = secondary name s
+secondary_after name s (ends.Failed fault) = failed name fault
+
+-- What an open site is by what it has in memory: a primary with these serials, or a secondary of that one, which may wait.
+pub data Role : Type 0 where
+  Reigns : (serials : List ℕ) → Role
+  Follows : (primary : Name) → (waits : Bool) → Role
+
+abbrev pub state_as : Role → Memory → State
+state_as (Reigns serials) site = Primary (record { site = site; serials = serials })
+state_as (Follows primary waits) site = Second (record { site = site; primary = primary; waits = waits })
+
+-- an open site in that role
+abbrev pub open_as : {D : Type 0} → Role → Name → store.Site D → Site
+open_as role name site = record { name = name; state = state_as role (memory_of site) }
+
+-- behind a command that ended so
+abbrev pub open_after : {D : Type 0} → Role → Name → store.Site D → Ended → Site
+open_after role name site ends.Done = open_as role name site
+open_after role name site ends.Undone = open_as role name site
+open_after role name site (ends.Failed fault) = failed name fault
+
+-- unless the site failed it goes on
+abbrev pub StaysGoing : {D : Type 0} → (D → View) → store.Site D → Ended → Type 0
+StaysGoing view site ends.Done = IsGoing view site
+StaysGoing view site ends.Undone = IsGoing view site
+StaysGoing view site (ends.Failed fault) = Unit {0}
 
 -- unless the site failed it is ready for calls
 abbrev pub StaysReady : {D : Type 0} → (D → View) → code.Reign D → Ended → Type 0

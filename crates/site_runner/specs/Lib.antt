@@ -6,6 +6,9 @@ pub mod Tied
 pub mod Moved
 pub mod Executes
 pub mod Named
+pub mod Pairs
+pub mod Linked
+pub mod Feeding
 pub mod Steps
 pub mod Looking
 pub mod Creating

@@ -10,29 +10,27 @@ ghost use Rattle.site_runner.specs.Steps.{ExecutesAt, IsCutAt};
 use super::answering::{damaged, fail, refuse};
 use super::cause::Cause;
 use super::ending::{Ended, closed};
+use super::finding::put_back_swapped;
+use super::naming::{find_one, is_down};
 use super::refusing::{Needing, refuse_region};
 use super::slot::Slot;
 use super::text::write_rolled;
+use super::waiting::wait_behind;
 use gvn_key::{Bytes, NoMemory};
-use mupip_rollback::RollError;
+use mupip_rollback::{RollError, Rolled};
 use repl_disk::Disk;
 use std::alloc::Global;
 use world_laws::leftovers::leftovers_hold;
 
-/// Rolls a site that is down back. Answers whether that was done.
-fn roll_down<D: Disk>(
+/// Adds what became of a rollback of a site that is down. Answers whether it was done.
+pub fn tell_rolled<D: Disk>(
     alloc: Global,
     disk: &mut D,
     name: &[u8],
-    number: u64,
+    rolled: Result<Rolled, RollError>,
     text: &mut Bytes,
-) -> Result<Ended, NoMemory>
-    requires some { 1 ≤ number }
-    ensures done { IfOk result (λ ended. ExecutesAt (rows.rollback number name.now) (D.disk disk.old) (down name.now) (D.disk disk.new) (down_after name.now ended) text.old text.new (is_done_at ended)) }
-    ensures cut_off { OnErr result (IsCutAt (rows.rollback number name.now) (D.disk disk.old) (down name.now) (D.disk disk.new)) }
-{
-    leftovers_hold();
-    match mupip_rollback::rollback(alloc, disk, number - 1) {
+) -> Result<Ended, NoMemory> {
+    match rolled {
         Ok(rolled) => {
             write_rolled(text, name, rolled.kept, rolled.lost)?;
             Ok(Ended::Done)
@@ -55,9 +53,26 @@ fn roll_down<D: Disk>(
     }
 }
 
+/// Rolls a site that is down back. Answers whether that was done.
+fn roll_down<D: Disk>(
+    alloc: Global,
+    disk: &mut D,
+    name: &[u8],
+    number: u64,
+    text: &mut Bytes,
+) -> Result<Ended, NoMemory>
+    requires some { 1 ≤ number }
+    ensures done { IfOk result (λ ended. ExecutesAt (rows.rollback number name.now) (D.disk disk.old) (down name.now) (D.disk disk.new) (down_after name.now ended) text.old text.new (is_done_at ended)) }
+    ensures cut_off { OnErr result (IsCutAt (rows.rollback number name.now) (D.disk disk.old) (down name.now) (D.disk disk.new)) }
+{
+    leftovers_hold();
+    let rolled = mupip_rollback::rollback(alloc, disk, number - 1);
+    tell_rolled(alloc, disk, name, rolled, text)
+}
+
 /// Rolls a site that is down back so that its next entry has that number, where there are as many, and shows how many entries stay and
 /// which lost-transaction file has the others.
-pub fn rollback<D: Disk>(
+fn rollback<D: Disk>(
     alloc: Global,
     mut disk: D,
     name: Bytes,
@@ -70,4 +85,37 @@ pub fn rollback<D: Disk>(
 {
     let ended = roll_down(alloc, &mut disk, name.as_slice(), number, text);
     closed(disk, name, ended)
+}
+
+/// Rolls the site of that name back so that its next entry has that number. Those that follow it wait for it from then on.
+pub fn roll_back<D: Disk>(
+    alloc: Global,
+    slots: &mut Vec<Slot<D>>,
+    site: &[u8],
+    number: u64,
+    text: &mut Bytes,
+) -> Result<Ended, NoMemory>
+    requires formed { IsFormed (Resync site.now number) }
+    requires ready { AreReady D.disk slots.old.items }
+    ensures ready { OnOk result (AreReady D.disk slots.new.items) }
+    ensures done { OnOk result (Acts D.disk (Resync site.now number) slots.old.items slots.new.items text.old text.new) }
+    ensures cut_off { OnErr result (IsCutOff D.disk (Resync site.now number) slots.old.items slots.new.items) }
+    ensures length { length slots.new.items ≡ length slots.old.items }
+{
+    let i = match find_one(slots, site) {
+        Ok(i) => i,
+        Err(refusal) => return refusal.write(text),
+    };
+    if !is_down(&slots[i]) {
+        return refuse(text, site, &Cause::Running);
+    }
+    // the last slot stands there meanwhile, so that no slot moves but these two
+    let slot = slots.swap_remove(i);
+    let (slot, ended) = match slot {
+        Slot::Down { disk, name } => rollback(alloc, disk, name, number, text),
+        _ => unreachable!(),
+    };
+    put_back_swapped(slots, i, slot);
+    wait_behind(slots, site, &ended);
+    ended
 }

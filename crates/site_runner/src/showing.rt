@@ -13,8 +13,9 @@ ghost use Rattle.site_runner.specs.Sites.{IsReadyOpen, IsReadySlot, Primary, rei
 ghost use Rattle.site_runner.specs.Steps.{state_text};
 
 use super::ending::Ended;
+use super::secondary::Secondary;
 use super::slot::Slot;
-use super::text::{write_line, write_numbered, write_open, write_reign};
+use super::text::{write_followed, write_line, write_numbered, write_open, write_reign};
 use gvn_key::{Bytes, NoMemory};
 use gvn_model::{Reign as PastReign, Stamp};
 use repl_disk::Disk;
@@ -90,6 +91,47 @@ pub fn show_failed<D: Disk>(
     let written = write_numbered(text, name.as_slice(), b"STATE FAILED ", fault);
     (
         Slot::Failed { disk, name, fault },
+        Ended::Done.after(written),
+    )
+}
+
+/// Adds the state of a secondary, its primary, its length and the reigns of its entries.
+fn write_secondary<D: Disk>(
+    secondary: &Secondary<D>,
+    name: &[u8],
+    text: &mut Bytes,
+) -> Result<(), NoMemory>
+    ensures { OnOk result (text.new ≡ text.old ++ show_secondary name.now secondary.now) }
+{
+    let site = &secondary.follower.site;
+    let word: &[u8] = if secondary.waits {
+        b"WAITING"
+    } else {
+        b"FOLLOWING"
+    };
+    write_followed(
+        text,
+        name,
+        word,
+        secondary.primary.as_slice(),
+        site.sequence_length(),
+    )?;
+    write_reigns(name, site.history().reigns.as_slice(), text)
+}
+
+/// Shows a secondary.
+pub fn show_secondary<D: Disk>(
+    secondary: Box<Secondary<D>>,
+    name: Bytes,
+    text: &mut Bytes,
+) -> (Slot<D>, Result<Ended, NoMemory>)
+    requires { IsReadySecondary D.disk secondary.value }
+    ensures ready { OnOk result.1 (IsReadySlot D.disk result.0) }
+    ensures left { Leaves D.disk (row_at rows.show) (Slot.Secondary secondary name) result text.old text.new }
+{
+    let written = write_secondary(secondary.as_ref(), name.as_slice(), text);
+    (
+        Slot::Secondary { secondary, name },
         Ended::Done.after(written),
     )
 }

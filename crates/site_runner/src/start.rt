@@ -11,6 +11,7 @@ ghost use Rattle.site_runner.specs.Starting.{BeginsAt, LeavesUnopened};
 
 use super::answering::{damaged, fail, refuse};
 use super::cause::Cause;
+use super::closing::refuse_opened;
 use super::ending::{Ended, closed, opened};
 use super::refusing::{Needing, refuse_region};
 use super::slot::Slot;
@@ -55,8 +56,8 @@ fn begin<D: Disk>(
             }
         }
         Err(SiteError::ReignLimit) => {
-            let ended = refuse(text, name.as_slice(), &Cause::ReignLimit);
-            closed(site.abandon(), name, ended)
+            nothing_is_left(&site);
+            refuse_opened(site, name, &Cause::ReignLimit, text)
         }
         Err(SiteError::Failed { fault }) => {
             let ended = fail(text, name.as_slice(), fault);
@@ -67,7 +68,7 @@ fn begin<D: Disk>(
 }
 
 /// Answers that a site wasn't opened, by the error that its opening ended with.
-fn unopened<D: Disk>(
+pub fn unopened<D: Disk>(
     alloc: Global,
     mut disk: D,
     error: SiteError,
@@ -100,6 +101,15 @@ fn unopened<D: Disk>(
     }
 }
 
+/// Opens the site of that name. Where another site's instance file stands, it isn't this site's: its place is told then.
+pub fn load_named<D: Disk>(alloc: Global, disk: D, name: &[u8]) -> Result<Site<D>, (D, SiteError)> {
+    let site = Site::load(alloc, disk)?;
+    if is_named(&site, name) {
+        return Ok(site);
+    }
+    Err((site.abandon(), SiteError::NotAFile { file: 0, offset: 0 }))
+}
+
 /// Opens a site that is down, and begins its reign. Where another site's instance file stands, it isn't this site's.
 pub fn start<D: Disk>(
     alloc: Global,
@@ -112,18 +122,8 @@ pub fn start<D: Disk>(
 {
     leftovers_hold();
     files_stand_for_one();
-    match Site::load(alloc, disk) {
-        Ok(site) => {
-            if is_named(&site, name.as_slice()) {
-                begin(alloc, site, name, text)
-            } else {
-                let ended = damaged(text, name.as_slice(), 0, 0);
-                closed(site.abandon(), name, ended)
-            }
-        }
-        Err(failure) => {
-            let (disk, error) = failure;
-            unopened(alloc, disk, error, name, text)
-        }
+    match load_named(alloc, disk, name.as_slice()) {
+        Ok(site) => begin(alloc, site, name, text),
+        Err((disk, error)) => unopened(alloc, disk, error, name, text),
     }
 }

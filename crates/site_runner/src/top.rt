@@ -26,6 +26,7 @@ use gvn_key::Bytes;
 use line_reader::{LineEnd, LineError, ReadAhead};
 use repl_disk::Disk;
 use repl_io::{Sink, Source};
+use repl_link::Linker;
 use repl_script::{Command, Script, ScriptError};
 use repl_words::is_command_line;
 use std::alloc::Global;
@@ -58,9 +59,10 @@ fn shorten(alloc: Global, text: &mut Bytes) {
 }
 
 /// Executes a command, and writes what it answers, for which there is a text whose memory may be used again.
-fn carry_out<K: Sink, D: Disk>(
+fn carry_out<K: Sink, D: Disk, L: Linker>(
     alloc: Global,
     slots: &mut Vec<Slot<D>>,
+    links: &mut L,
     command: Command,
     text: &mut Bytes,
     out: &mut K,
@@ -75,7 +77,7 @@ fn carry_out<K: Sink, D: Disk>(
     ensures length { length slots.new.items ≡ length slots.old.items }
 {
     text.clear();
-    match execute(alloc, slots, command, text) {
+    match execute(alloc, slots, links, command, text) {
         Err(_) => Err(Status::NoMemory),
         Ok(_) => {
             let written = write_all(out, text.as_slice());
@@ -100,10 +102,11 @@ fn status_of(error: ScriptError) -> Status
 }
 
 /// Takes the next line, and does what it asks for.
-fn take_line<K: Sink, D: Disk>(
+fn take_line<K: Sink, D: Disk, L: Linker>(
     alloc: Global,
     reader: &mut Script,
     slots: &mut Vec<Slot<D>>,
+    links: &mut L,
     line: &[u8],
     text: &mut Bytes,
     out: &mut K,
@@ -120,7 +123,7 @@ fn take_line<K: Sink, D: Disk>(
     match reader.feed(line) {
         Err(error) => Err(status_of(error)),
         Ok(None) => Ok(()),
-        Ok(Some(command)) => carry_out(alloc, slots, command, text, out),
+        Ok(Some(command)) => carry_out(alloc, slots, links, command, text, out),
     }
 }
 
@@ -135,9 +138,10 @@ fn finish(reader: &Script) -> Status
 }
 
 /// Runs a script of which nothing was read yet over disks in slots. What it reads ahead and doesn't take stays in the buffer.
-fn run_lines<S: Source, K: Sink, D: Disk>(
+fn run_lines<S: Source, K: Sink, D: Disk, L: Linker>(
     alloc: Global,
     slots: &mut Vec<Slot<D>>,
+    links: &mut L,
     ahead: &mut ReadAhead,
     script: &mut S,
     out: &mut K,
@@ -171,13 +175,13 @@ fn run_lines<S: Source, K: Sink, D: Disk>(
                 };
             }
             Ok(LineEnd::Input) => {
-                match take_line(alloc, &mut reader, slots, &line, &mut text, out) {
+                match take_line(alloc, &mut reader, slots, links, &line, &mut text, out) {
                     Ok(()) => return finish(&reader),
                     Err(status) => return status,
                 }
             }
             Ok(LineEnd::Feed) => {
-                match take_line(alloc, &mut reader, slots, &line, &mut text, out) {
+                match take_line(alloc, &mut reader, slots, links, &line, &mut text, out) {
                     Ok(()) => lines += 1,
                     Err(status) => return status,
                 }
@@ -192,9 +196,10 @@ fn run_lines<S: Source, K: Sink, D: Disk>(
 }
 
 /// Runs a script over disks in slots.
-fn run_script<S: Source, K: Sink, D: Disk>(
+fn run_script<S: Source, K: Sink, D: Disk, L: Linker>(
     alloc: Global,
     slots: &mut Vec<Slot<D>>,
+    links: &mut L,
     script: &mut S,
     out: &mut K,
 ) -> Status
@@ -211,23 +216,25 @@ fn run_script<S: Source, K: Sink, D: Disk>(
     ensures sink { result ≡ Status.SinkFault → Rose (K.faults out.old) (K.faults out.new) }
 {
     let mut ahead = ReadAhead::new(MOST_BYTES);
-    run_lines(alloc, slots, &mut ahead, script, out)
+    run_lines(alloc, slots, links, &mut ahead, script, out)
 }
 
 /// Does all that the program does, for the words behind the program's name, but for the choice of disks: reads a script, runs its commands in order on sites
 /// over the disks, and writes what they answer. Sites stand on the first disks, in the order of their making. It reads the script
-/// ahead in pieces of at most 4,096 bytes. The disks are given back in their order, whatever the status.
+/// ahead in pieces of at most 4,096 bytes. The disks are given back in their order, whatever the status. Secondaries are fed over
+/// connections of that linker.
 ///
 /// A later run may take up disks that an earlier one gave back: they are those of the world that it left, without its sites, and
 /// ATTACH finds what stands on each of them. Where they were fit before a run they are fit behind it, so a site's serials and
 /// cycles never go back from one run to the next. `new_worlds_are_fit` of `world_laws` says so of the next run's world: `again`,
 /// and `read_again` where the run was cut off or the machine lost what wasn't synced, and each disk reads as one of its outcomes.
-pub fn run<S: Source, K: Sink, D: Disk>(
+pub fn run<S: Source, K: Sink, D: Disk, L: Linker>(
     alloc: Global,
     words: &[String],
     script: &mut S,
     out: &mut K,
     disks: &mut Vec<D>,
+    links: &mut L,
 ) -> Status
     ensures bad_words { (result ≡ Status.BadWords) ↔ (words_reading (map string_bytes words.now) ≡ None) }
     ensures nothing { result ≡ Status.BadWords → (script.new ≡ script.old) × (out.new ≡ out.old) × (disks.new ≡ disks.old) }
@@ -249,7 +256,7 @@ pub fn run<S: Source, K: Sink, D: Disk>(
     match take_disks(alloc, disks) {
         Err(_) => Status::NoMemory,
         Ok(mut slots) => {
-            let status = run_script(alloc, &mut slots, script, out);
+            let status = run_script(alloc, &mut slots, links, script, out);
             give_back(slots, disks);
             steps_keep_fit();
             status

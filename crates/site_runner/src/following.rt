@@ -1,0 +1,151 @@
+// START SECONDARY.
+ghost use Rattle.std.specs.Prelude.{◌≡◌, ◌<◌, length, OnOk, OnErr};
+ghost use Rattle.global_defs.specs.declared.limits.TheConstants.{NUMBERS_END};
+ghost use Rattle.command_defs.specs.Commands.{IsFormed, StartSecondary};
+ghost use Rattle.site_runner.specs.Executes.{ExecutesLinked, IsCutOff};
+ghost use Rattle.site_runner.specs.Sites.{IsReadySlot, AreReady};
+
+use super::answering::{bad_frame, refuse};
+use super::cause::Cause;
+use super::closing::{refuse_opened, unclosed};
+use super::ending::{Ended, closed};
+use super::finding::{find, put_back};
+use super::naming::{find_both, is_down, is_primary};
+use super::secondary::Secondary;
+use super::slot::Slot;
+use super::start::{load_named, unopened};
+use super::text::write_follows;
+use gvn_key::{Bytes, NoMemory};
+use gvn_model::History;
+use receiver_server::Handshake;
+use repl_disk::Disk;
+use repl_link::Linker;
+use repl_section::Follower;
+use session_handshake::{SessionError, handshake};
+use site_store::Site;
+use std::alloc::Global;
+
+/// Closes a site that was opened again, and answers that the primary's bytes have no admissible frame at that place.
+fn break_off<D: Disk>(
+    site: Site<D>,
+    name: Bytes,
+    offset: u64,
+    text: &mut Bytes,
+) -> (Slot<D>, Result<Ended, NoMemory>) {
+    match site.close() {
+        (disk, Ok(())) => {
+            let ended = bad_frame(text, name.as_slice(), offset);
+            closed(disk, name, ended)
+        }
+        (disk, Err(error)) => unclosed(disk, error, name, text),
+    }
+}
+
+/// Lets a site that was opened follow its primary.
+fn begin_following<D: Disk>(
+    alloc: Global,
+    site: Site<D>,
+    name: Bytes,
+    session: u32,
+    primary: Bytes,
+    text: &mut Bytes,
+) -> (Slot<D>, Result<Ended, NoMemory>) {
+    let from = site.sequence_length() + 1;
+    let written = write_follows(text, name.as_slice(), primary.as_slice(), from);
+    let secondary = Secondary {
+        follower: Follower::new(session, site),
+        primary,
+        waits: false,
+    };
+    match Box::new(alloc, secondary) {
+        Ok(secondary) => (
+            Slot::Secondary { secondary, name },
+            Ended::Done.after(written),
+        ),
+        Err(failed) => closed(failed.value.follower.site.abandon(), name, Err(NoMemory)),
+    }
+}
+
+/// Asks the primary, which has that history, from where a site that was opened may follow. A refused one is closed again.
+fn ask<D: Disk, L: Linker>(
+    alloc: Global,
+    theirs: &History,
+    site: Site<D>,
+    name: Bytes,
+    session: u32,
+    primary: Bytes,
+    links: &mut L,
+    text: &mut Bytes,
+) -> (Slot<D>, Result<Ended, NoMemory>) {
+    match handshake(alloc, theirs, site.history(), &name, links, session) {
+        Ok(Handshake::Resume(_)) => begin_following(alloc, site, name, session, primary, text),
+        Ok(Handshake::RollbackFirst(number)) => {
+            refuse_opened(site, name, &Cause::RollbackFirst { number }, text)
+        }
+        Err(SessionError::LinkCut) => refuse_opened(site, name, &Cause::LinkCut, text),
+        Err(SessionError::BadFrame { offset }) => break_off(site, name, offset, text),
+        Err(SessionError::NoMemory) => closed(site.abandon(), name, Err(NoMemory)),
+    }
+}
+
+/// Opens a site that is down as a secondary of a primary that has that history.
+fn start_at<D: Disk, L: Linker>(
+    alloc: Global,
+    theirs: &History,
+    disk: D,
+    name: Bytes,
+    session: u32,
+    primary: Bytes,
+    links: &mut L,
+    text: &mut Bytes,
+) -> (Slot<D>, Result<Ended, NoMemory>) {
+    match load_named(alloc, disk, name.as_slice()) {
+        Ok(site) => ask(alloc, theirs, site, name, session, primary, links, text),
+        Err((disk, error)) => unopened(alloc, disk, error, name, text),
+    }
+}
+
+/// The history of the primary of that name.
+pub fn history_at<'a, D: Disk>(slots: &'a [Slot<D>], name: &[u8]) -> Option<&'a History> {
+    match &slots[find(slots, name)?] {
+        Slot::Open { reign, .. } => Some(reign.site.history()),
+        _ => None,
+    }
+}
+
+/// Opens a site that is down as a secondary of a primary, which it follows from then on.
+pub fn start_secondary<D: Disk, L: Linker>(
+    alloc: Global,
+    slots: &mut Vec<Slot<D>>,
+    links: &mut L,
+    site: &[u8],
+    primary: Bytes,
+    text: &mut Bytes,
+) -> Result<Ended, NoMemory>
+    requires formed { IsFormed (StartSecondary site.now primary) }
+    requires ready { AreReady D.disk slots.old.items }
+    ensures ready { OnOk result (AreReady D.disk slots.new.items) }
+    ensures done { OnOk result (ExecutesLinked D.disk L.links (StartSecondary site.now primary) slots.old.items slots.new.items links.old links.new text.old text.new) }
+    ensures cut_off { OnErr result (IsCutOff D.disk (StartSecondary site.now primary) slots.old.items slots.new.items) }
+    ensures length { length slots.new.items ≡ length slots.old.items }
+{
+    let (i, j) = match find_both(slots, site, primary.as_slice()) {
+        Ok(both) => both,
+        Err(refusal) => return refusal.write(text),
+    };
+    if !is_down(&slots[i]) {
+        return refuse(text, site, &Cause::Running);
+    }
+    if !is_primary(&slots[j]) {
+        return refuse(text, primary.as_slice(), &Cause::NotPrimary);
+    }
+    let slot = slots.remove(i);
+    let (slot, ended) = match (slot, history_at(slots, primary.as_slice())) {
+        (Slot::Down { disk, name }, Some(theirs)) => start_at(
+            alloc, theirs, disk, name, i as u32, primary, links, text,
+        ),
+        _ => unreachable!(),
+    };
+    put_back(slots, i, slot);
+    ended
+}

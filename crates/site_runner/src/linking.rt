@@ -1,0 +1,39 @@
+// CUT.
+ghost use Rattle.std.specs.Prelude.{◌≡◌, OnOk, OnErr};
+ghost use Rattle.command_defs.specs.Commands.{IsFormed, Cut};
+ghost use Rattle.site_runner.specs.Executes.{ExecutesLinked};
+
+use super::answering::refuse;
+use super::cause::Cause;
+use super::ending::Ended;
+use super::naming::find_one;
+use super::slot::Slot;
+use super::text::write_numbered;
+use gvn_key::{Bytes, NoMemory};
+use repl_disk::Disk;
+use repl_link::Linker;
+
+/// Has one more connection of a site as a secondary cut after so many bytes from its primary.
+pub fn cut<D: Disk, L: Linker>(
+    slots: &[Slot<D>],
+    links: &mut L,
+    site: &[u8],
+    bytes: u64,
+    text: &mut Bytes,
+) -> Result<Ended, NoMemory>
+    requires formed { IsFormed (Cut site.now bytes) }
+    ensures done { OnOk result (ExecutesLinked D.disk L.links (Cut site.now bytes) slots.now slots.now links.old links.new text.old text.new) }
+{
+    let i = match find_one(slots, site) {
+        Ok(i) => i,
+        Err(refusal) => return refusal.write(text),
+    };
+    if !links.simulated() {
+        return refuse(text, site, &Cause::NotSimulated);
+    }
+    write_numbered(text, site, b"CUT ", bytes)?;
+    match links.cut_after(i as u32, bytes) {
+        Ok(()) => Ok(Ended::Done),
+        Err(_) => Err(NoMemory),
+    }
+}

@@ -1,0 +1,84 @@
+// SWITCH.
+ghost use Rattle.std.specs.Prelude.{◌≡◌, length, OnOk, OnErr};
+ghost use Rattle.command_defs.specs.Commands.{IsFormed, Switch};
+ghost use Rattle.site_runner.specs.Executes.{ExecutesLinked, IsCutOff};
+ghost use Rattle.site_runner.specs.Sites.{AreReady};
+
+use super::answering::refuse;
+use super::cause::Cause;
+use super::ending::Ended;
+use super::execute::execute_named;
+use super::following::start_secondary;
+use super::naming::{find_both, is_primary};
+use super::slot::Slot;
+use gvn_key::{Bytes, NoMemory};
+use repl_disk::Disk;
+use repl_link::Linker;
+use repl_script::Command;
+use std::alloc::Global;
+
+/// Whether a site that follows the one of that name stands there.
+fn is_following<D: Disk>(slot: &Slot<D>, name: &[u8]) -> bool {
+    match slot {
+        Slot::Secondary { secondary, .. } => {
+            !secondary.waits && secondary.primary.as_slice() == name
+        }
+        _ => false,
+    }
+}
+
+/// Closes the primary and its secondary, and opens the secondary as a primary. The first that isn't done ends it.
+fn change<D: Disk>(
+    alloc: Global,
+    slots: &mut Vec<Slot<D>>,
+    primary: &Bytes,
+    secondary: &Bytes,
+    text: &mut Bytes,
+) -> Result<Ended, NoMemory> {
+    let site = primary.copy()?;
+    let ended = execute_named(alloc, slots, Command::Stop { site }, text)?;
+    if !ended.is_done() {
+        return Ok(ended);
+    }
+    let site = secondary.copy()?;
+    let ended = execute_named(alloc, slots, Command::Stop { site }, text)?;
+    if !ended.is_done() {
+        return Ok(ended);
+    }
+    let site = secondary.copy()?;
+    execute_named(alloc, slots, Command::StartPrimary { site }, text)
+}
+
+/// Has a primary and its secondary change places: the lines are those of STOP of the one and of the other, of START of the secondary as a
+/// primary, and of START of the primary as its secondary. The first that isn't done ends it.
+pub fn switch<D: Disk, L: Linker>(
+    alloc: Global,
+    slots: &mut Vec<Slot<D>>,
+    links: &mut L,
+    primary: Bytes,
+    secondary: Bytes,
+    text: &mut Bytes,
+) -> Result<Ended, NoMemory>
+    requires formed { IsFormed (Switch primary secondary) }
+    requires ready { AreReady D.disk slots.old.items }
+    ensures ready { OnOk result (AreReady D.disk slots.new.items) }
+    ensures done { OnOk result (ExecutesLinked D.disk L.links (Switch primary secondary) slots.old.items slots.new.items links.old links.new text.old text.new) }
+    ensures cut_off { OnErr result (IsCutOff D.disk (Switch primary secondary) slots.old.items slots.new.items) }
+    ensures length { length slots.new.items ≡ length slots.old.items }
+{
+    let (i, j) = match find_both(slots, primary.as_slice(), secondary.as_slice()) {
+        Ok(both) => both,
+        Err(refusal) => return refusal.write(text),
+    };
+    if !is_primary(&slots[i]) {
+        return refuse(text, primary.as_slice(), &Cause::NotPrimary);
+    }
+    if !is_following(&slots[j], primary.as_slice()) {
+        return refuse(text, secondary.as_slice(), &Cause::NotFollowing);
+    }
+    let ended = change(alloc, slots, &primary, &secondary, text)?;
+    if !ended.is_done() {
+        return Ok(ended);
+    }
+    start_secondary(alloc, slots, links, primary.as_slice(), secondary, text)
+}
