@@ -1,5 +1,5 @@
 -- What sites stand for.
-use Rattle.std.specs.Prelude.{◌≡◌, ℕ, Bool, true, false, List, [], ◌∷◌, length, slice_get, Option, None, Some, IsTrue, option_map}
+use Rattle.std.specs.Prelude.{◌≡◌, ℕ, Bool, true, false, not, ◌&&◌, List, [], ◌∷◌, length, slice_get, Option, None, Some, IsTrue, option_map}
 use Rattle.std.specs.List.{AllByRecursion}
 use Rattle.disk_defs.specs.Disk.{View}
 use Rattle.journal_defs.specs.Instance.{site_name}
@@ -16,7 +16,7 @@ use Rattle.site_defs.specs.Lists.{Among}
 use Rattle.world_defs.specs.World as world
 use Rattle.command_defs.specs.Commands.{Name}
 use Rattle.world_defs.specs.World.{Place, Settled, is_site_named, is_free}
-use Rattle.site_defs.specs.Contents.{Contents, NO_LEFTOVER, is_made, bare}
+use Rattle.site_defs.specs.Contents.{Contents, NO_LEFTOVER, is_made, bare, same_name}
 use Rattle.site_runner.specs.declared.slot.Slot.{Slot}
 use Rattle.site_runner.specs.declared.slot.Slot.TheVariants as slots
 
@@ -91,6 +91,27 @@ is_down Down = true
 is_down (Primary r) = false
 is_down (Second s) = false
 is_down (Failed fault) = false
+
+abbrev pub is_primary : State → Bool
+is_primary Down = false
+is_primary (Primary r) = true
+is_primary (Second s) = false
+is_primary (Failed fault) = false
+
+-- it follows the site of that name, and doesn't wait for it
+abbrev pub is_following : Name → State → Bool
+is_following name Down = false
+is_following name (Primary r) = false
+is_following name (Second s) = not s.waits && same_name s.primary name
+is_following name (Failed fault) = false
+
+abbrev pub site_is : (State → Bool) → Option Site → Bool
+site_is test None = false
+site_is test (Some s) = test s.state
+
+-- a site in such a state stands there
+abbrev pub slot_is : {D : Type 0} → (State → Bool) → Slot D → Bool
+slot_is test slot = site_is test (site_in slot)
 
 abbrev pub fault_of : State → Option ℕ
 fault_of Down = None

@@ -3,8 +3,9 @@ ghost use Rattle.std.specs.Prelude.{◌≡◌, length, OnOk, OnErr, true};
 ghost use Rattle.command_defs.specs.Commands.{IsFormed, IsWhole};
 ghost use Rattle.repl_script.specs.Commands.{command_value};
 ghost use Rattle.site_runner.specs.Executes.{Leaves, Executes, IsCutOff};
+ghost use Rattle.wire_defs.specs.Links.{Linking};
 ghost use Rattle.site_runner.specs.Named.{IsNamed, name_in, row_in};
-ghost use Rattle.site_runner.specs.Sites.{is_slot_named, IsReadyOpen, IsReadySlot, AreReady};
+ghost use Rattle.site_runner.specs.Sites.{is_slot_named, IsReadyOpen, IsReadySecondary, IsReadySlot, AreReady};
 
 use super::answering::refuse;
 use super::attach::attach;
@@ -293,8 +294,8 @@ pub fn execute_named<D: Disk>(
     requires command { IsNamed (command_value command) }
     requires ready { AreReady D.disk slots.old.items }
     ensures ready { OnOk result (AreReady D.disk slots.new.items) }
-    ensures done { OnOk result (Executes D.disk (command_value command) slots.old.items slots.new.items text.old text.new) }
-    ensures cut_off { OnErr result (IsCutOff D.disk (command_value command) slots.old.items slots.new.items) }
+    ensures done { (links : Linking) → OnOk result (Executes D.disk (command_value command) links links slots.old.items slots.new.items text.old text.new) }
+    ensures cut_off { (links : Linking) → OnErr result (IsCutOff D.disk (command_value command) links slots.old.items slots.new.items) }
     ensures length { length slots.new.items ≡ length slots.old.items }
 {
     let name = name_of(&command).as_slice();
@@ -322,8 +323,8 @@ pub fn execute<D: Disk, L: Linker>(
     requires whole { IsWhole (command_value command) }
     requires ready { AreReady D.disk slots.old.items }
     ensures ready { OnOk result (AreReady D.disk slots.new.items) }
-    ensures done { OnOk result (ExecutesLinked D.disk L.links (command_value command) slots.old.items slots.new.items links.old links.new text.old text.new) }
-    ensures cut_off { OnErr result (IsCutOff D.disk (command_value command) slots.old.items slots.new.items) }
+    ensures done { OnOk result (Executes D.disk (command_value command) (L.links links.old) (L.links links.new) slots.old.items slots.new.items text.old text.new) }
+    ensures cut_off { OnErr result (IsCutOff D.disk (command_value command) (L.links links.old) slots.old.items slots.new.items) }
     ensures length { length slots.new.items ≡ length slots.old.items }
 {
     match command {

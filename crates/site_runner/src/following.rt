@@ -2,7 +2,7 @@
 ghost use Rattle.std.specs.Prelude.{◌≡◌, ◌<◌, length, OnOk, OnErr};
 ghost use Rattle.global_defs.specs.declared.limits.TheConstants.{NUMBERS_END};
 ghost use Rattle.command_defs.specs.Commands.{IsFormed, StartSecondary};
-ghost use Rattle.site_runner.specs.Executes.{ExecutesLinked, IsCutOff};
+ghost use Rattle.site_runner.specs.Executes.{Executes, IsCutOff};
 ghost use Rattle.site_runner.specs.Sites.{IsReadySlot, AreReady};
 
 use super::answering::{bad_frame, refuse};
@@ -125,8 +125,8 @@ pub fn start_secondary<D: Disk, L: Linker>(
     requires formed { IsFormed (StartSecondary site.now primary) }
     requires ready { AreReady D.disk slots.old.items }
     ensures ready { OnOk result (AreReady D.disk slots.new.items) }
-    ensures done { OnOk result (ExecutesLinked D.disk L.links (StartSecondary site.now primary) slots.old.items slots.new.items links.old links.new text.old text.new) }
-    ensures cut_off { OnErr result (IsCutOff D.disk (StartSecondary site.now primary) slots.old.items slots.new.items) }
+    ensures done { OnOk result (Executes D.disk (StartSecondary site.now primary) (L.links links.old) (L.links links.new) slots.old.items slots.new.items text.old text.new) }
+    ensures cut_off { OnErr result (IsCutOff D.disk (StartSecondary site.now primary) (L.links links.old) slots.old.items slots.new.items) }
     ensures length { length slots.new.items ≡ length slots.old.items }
 {
     let (i, j) = match find_both(slots, site, primary.as_slice()) {

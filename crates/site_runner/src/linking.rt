@@ -1,7 +1,7 @@
 // CUT.
 ghost use Rattle.std.specs.Prelude.{◌≡◌, OnOk, OnErr};
 ghost use Rattle.command_defs.specs.Commands.{IsFormed, Cut};
-ghost use Rattle.site_runner.specs.Executes.{ExecutesLinked};
+ghost use Rattle.site_runner.specs.Executes.{Executes, IsCutOff};
 
 use super::answering::refuse;
 use super::cause::Cause;
@@ -22,7 +22,8 @@ pub fn cut<D: Disk, L: Linker>(
     text: &mut Bytes,
 ) -> Result<Ended, NoMemory>
     requires formed { IsFormed (Cut site.now bytes) }
-    ensures done { OnOk result (ExecutesLinked D.disk L.links (Cut site.now bytes) slots.now slots.now links.old links.new text.old text.new) }
+    ensures done { OnOk result (Executes D.disk (Cut site.now bytes) (L.links links.old) (L.links links.new) slots.now slots.now text.old text.new) }
+    ensures cut_off { OnErr result (IsCutOff D.disk (Cut site.now bytes) (L.links links.old) slots.now slots.now) }
 {
     let i = match find_one(slots, site) {
         Ok(i) => i,

@@ -1,7 +1,7 @@
 // ROLLBACK FETCHRESYNC.
 ghost use Rattle.std.specs.Prelude.{◌≡◌, length, OnOk, OnErr};
 ghost use Rattle.command_defs.specs.Commands.{IsFormed, Fetchresync};
-ghost use Rattle.site_runner.specs.Executes.{ExecutesLinked, IsCutOff};
+ghost use Rattle.site_runner.specs.Executes.{Executes, IsCutOff};
 ghost use Rattle.site_runner.specs.Sites.{AreReady};
 
 use super::answering::{bad_frame, damaged, fail, refuse};
@@ -76,8 +76,8 @@ pub fn roll_back_to<D: Disk, L: Linker>(
     requires formed { IsFormed (Fetchresync site.now primary.now) }
     requires ready { AreReady D.disk slots.old.items }
     ensures ready { OnOk result (AreReady D.disk slots.new.items) }
-    ensures done { OnOk result (ExecutesLinked D.disk L.links (Fetchresync site.now primary.now) slots.old.items slots.new.items links.old links.new text.old text.new) }
-    ensures cut_off { OnErr result (IsCutOff D.disk (Fetchresync site.now primary.now) slots.old.items slots.new.items) }
+    ensures done { OnOk result (Executes D.disk (Fetchresync site.now primary.now) (L.links links.old) (L.links links.new) slots.old.items slots.new.items text.old text.new) }
+    ensures cut_off { OnErr result (IsCutOff D.disk (Fetchresync site.now primary.now) (L.links links.old) slots.old.items slots.new.items) }
     ensures length { length slots.new.items ≡ length slots.old.items }
 {
     let (i, j) = match find_both(slots, site, primary) {

@@ -1,10 +1,12 @@
 // ROLLBACK RESYNC.
-ghost use Rattle.std.specs.Prelude.{◌≡◌, ◌≤◌, IfOk, OnOk, OnErr};
+ghost use Rattle.std.specs.Prelude.{◌≡◌, ◌≤◌, length, IfOk, OnOk, OnErr};
+ghost use Rattle.wire_defs.specs.Links.{Linking};
+ghost use Rattle.command_defs.specs.Commands.{IsFormed, Resync};
 ghost use Rattle.world_defs.specs.rows.Rollback as rows;
 ghost use Rattle.world_defs.specs.Meaning.{row_at};
 ghost use Rattle.site_runner.specs.Ending.{down, down_after, is_done_at};
-ghost use Rattle.site_runner.specs.Executes.{Leaves};
-ghost use Rattle.site_runner.specs.Sites.{IsReadySlot};
+ghost use Rattle.site_runner.specs.Executes.{Leaves, Executes, IsCutOff};
+ghost use Rattle.site_runner.specs.Sites.{IsReadySlot, AreReady};
 ghost use Rattle.site_runner.specs.Steps.{ExecutesAt, IsCutAt};
 
 use super::answering::{damaged, fail, refuse};
@@ -29,7 +31,17 @@ pub fn tell_rolled<D: Disk>(
     name: &[u8],
     rolled: Result<Rolled, RollError>,
     text: &mut Bytes,
-) -> Result<Ended, NoMemory> {
+) -> Result<Ended, NoMemory>
+    // no region needs forward recovery for what a rollback leaves alone
+    requires { (region : ℕ) → IsErrOf rolled (RollError.NeedForward region) → ⊥ }
+    ensures done { IfOk rolled (λ r. IfOk result (λ ended. (ended ≡ Done) × (text.new ≡ text.old ++ line name.now (codes "ROLLEDBACK " ++ decimal r.kept ++ codes " LOST " ++ decimal r.lost)))) }
+    ensures limit { IsErrOf rolled RollError.GenLimit → IfOk result (λ ended. (ended ≡ Undone) × (text.new ≡ text.old ++ line name.now (cause_text GenLimit))) }
+    ensures fault { (fault : ℕ) → IsErrOf rolled (RollError.Failed fault) → IfOk result (λ ended. (ended ≡ Failed fault) × (text.new ≡ text.old ++ fault_line name.now fault)) }
+    ensures damage { (file offset : ℕ) → IsErrOf rolled (RollError.NotAFile file offset) → IfOk result (λ ended. (ended ≡ Undone) × (text.new ≡ text.old ++ damage_line name.now file offset)) }
+    ensures region { (region generation : ℕ) → IsErrOf rolled (RollError.NoBeforeImage region generation) → (p : Place) → NeedsForward (D.disk disk.old) region (Needing.Rollback generation) p → RefusesAt (D.disk disk.old) (D.disk disk.new) region (Needing.Rollback generation) p result text.old text.new }
+    ensures disk { ((region generation : ℕ) → IsErrOf rolled (RollError.NoBeforeImage region generation) → ⊥) → disk.new ≡ disk.old }
+    ensures memory { IsErrOf rolled RollError.NoMemory → IsErrOf result NoMemory }
+{
     match rolled {
         Ok(rolled) => {
             write_rolled(text, name, rolled.kept, rolled.lost)?;
@@ -98,8 +110,8 @@ pub fn roll_back<D: Disk>(
     requires formed { IsFormed (Resync site.now number) }
     requires ready { AreReady D.disk slots.old.items }
     ensures ready { OnOk result (AreReady D.disk slots.new.items) }
-    ensures done { OnOk result (Acts D.disk (Resync site.now number) slots.old.items slots.new.items text.old text.new) }
-    ensures cut_off { OnErr result (IsCutOff D.disk (Resync site.now number) slots.old.items slots.new.items) }
+    ensures done { (links : Linking) → OnOk result (Executes D.disk (Resync site.now number) links links slots.old.items slots.new.items text.old text.new) }
+    ensures cut_off { (links : Linking) → OnErr result (IsCutOff D.disk (Resync site.now number) links slots.old.items slots.new.items) }
     ensures length { length slots.new.items ≡ length slots.old.items }
 {
     let i = match find_one(slots, site) {

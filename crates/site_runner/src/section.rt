@@ -103,8 +103,8 @@ pub fn run_section<D: Disk, L: Linker>(
     requires whole { IsWhole (Run site.now (at_all jobs) order.now) }
     requires ready { AreReady D.disk slots.old.items }
     ensures ready { OnOk result (AreReady D.disk slots.new.items) }
-    ensures done { OnOk result (ExecutesLinked D.disk L.links (Run site.now (at_all jobs) order.now) slots.old.items slots.new.items links.old links.new text.old text.new) }
-    ensures cut_off { OnErr result (IsCutOff D.disk (Run site.now (at_all jobs) order.now) slots.old.items slots.new.items) }
+    ensures done { OnOk result (Executes D.disk (Run site.now (at_all jobs) order.now) (L.links links.old) (L.links links.new) slots.old.items slots.new.items text.old text.new) }
+    ensures cut_off { OnErr result (IsCutOff D.disk (Run site.now (at_all jobs) order.now) (L.links links.old) slots.old.items slots.new.items) }
     ensures length { length slots.new.items ≡ length slots.old.items }
 {
     let i = match find_one(slots, site) {

@@ -1,7 +1,7 @@
 // SWITCH.
 ghost use Rattle.std.specs.Prelude.{◌≡◌, length, OnOk, OnErr};
 ghost use Rattle.command_defs.specs.Commands.{IsFormed, Switch};
-ghost use Rattle.site_runner.specs.Executes.{ExecutesLinked, IsCutOff};
+ghost use Rattle.site_runner.specs.Executes.{Executes, IsCutOff};
 ghost use Rattle.site_runner.specs.Sites.{AreReady};
 
 use super::answering::refuse;
@@ -62,8 +62,8 @@ pub fn switch<D: Disk, L: Linker>(
     requires formed { IsFormed (Switch primary secondary) }
     requires ready { AreReady D.disk slots.old.items }
     ensures ready { OnOk result (AreReady D.disk slots.new.items) }
-    ensures done { OnOk result (ExecutesLinked D.disk L.links (Switch primary secondary) slots.old.items slots.new.items links.old links.new text.old text.new) }
-    ensures cut_off { OnErr result (IsCutOff D.disk (Switch primary secondary) slots.old.items slots.new.items) }
+    ensures done { OnOk result (Executes D.disk (Switch primary secondary) (L.links links.old) (L.links links.new) slots.old.items slots.new.items text.old text.new) }
+    ensures cut_off { OnErr result (IsCutOff D.disk (Switch primary secondary) (L.links links.old) slots.old.items slots.new.items) }
     ensures length { length slots.new.items ≡ length slots.old.items }
 {
     let (i, j) = match find_both(slots, primary.as_slice(), secondary.as_slice()) {
