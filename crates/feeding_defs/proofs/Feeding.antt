@@ -1,5 +1,5 @@
 -- Taking entries in several parts.
-use Rattle.std.proofs.Common.{◌≡◌, ◌⊎◌, inl, inr, ℕ, ◌+◌, ◌<◌, ◌≤◌, List, ◌++◌, length, take, drop, map, sym, ap, subst, ◌∙◌, arith, append_assoc, length-append, take-append-drop, take-take}
+use Rattle.std.proofs.Common.{◌≡◌, ◌⊎◌, inl, inr, ℕ, ◌+◌, ◌-◌, ◌<◌, ◌≤◌, List, ◌++◌, length, take, drop, map, sym, ap, subst, ◌∙◌, arith, append_assoc, length-append, take-append-drop, take-take}
 use Rattle.std.proofs.lemmas.List.{drop-append-le, length-take-le, length-drop, map-append}
 use Rattle.global_defs.specs.Entry.{Sequence, Reign}
 use Rattle.global_defs.specs.Rising.{StartsRise}

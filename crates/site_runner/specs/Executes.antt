@@ -25,6 +25,11 @@ pub record Comes (row : Row) (S : Place → Type 0) (before now : List ℕ) (end
   pub written : now ≡ before ++ text
   pub done : is_done answer ≡ ended
 
+-- The row comes to a place that has S, and its answer has L: so it may tell what became of the links.
+pub record ComesOver (row : Row) (S : Place → Type 0) (L : Answer → Type 0) (before now : List ℕ) (ended : Bool) : Type 0 where
+  pub comes : Comes row S before now ended
+  pub linked : L comes.answer
+
 -- Whatever place the slot was, the row leads to one that it is.
 abbrev pub ExecutesHere : {D : Type 0} → (D → View) → (Place → Row) → Slot D → Slot D → List ℕ → List ℕ → Bool → Type 0
 ExecutesHere view row old new before now done = (p : Place) → IsPlace view old p → Comes (row p) (IsPlace view new) before now done

@@ -7,8 +7,6 @@ pub mod Moved
 pub mod Executes
 pub mod Named
 pub mod Pairs
-pub mod Linked
-pub mod Feeding
 pub mod Steps
 pub mod Looking
 pub mod Creating
@@ -18,6 +16,10 @@ pub mod Mapping
 pub mod Marking
 pub mod Recovering
 pub mod Refusing
+pub mod Linked
+pub mod Feeding
+pub mod Waiting
+pub mod Switching
 pub mod Setting
 pub mod Ends
 pub mod Meant

@@ -1,5 +1,5 @@
 -- Commands that name two sites: where those stand, and what refuses them whatever they do.
-use Rattle.std.specs.Prelude.{◌≡◌, ℕ, ◌<◌, List, [], ◌∷◌, length, slice_get, Option, Some, None}
+use Rattle.std.specs.Prelude.{ℕ, Bool, false, List, [], ◌∷◌, slice_get, Option, Some, None}
 use Rattle.site_defs.specs.Lists.{first_where}
 use Rattle.command_defs.specs.Commands.{Name}
 
@@ -9,7 +9,7 @@ use Rattle.world_defs.specs.Row.{first_refusal}
 use Rattle.site_runner.specs.declared.naming.Refusal as code
 use Rattle.site_runner.specs.declared.slot.Slot.{Slot}
 use Rattle.site_runner.specs.Causes.{cause_value}
-use Rattle.site_runner.specs.Sites.{is_slot_named, fault_in}
+use Rattle.site_runner.specs.Sites.{State, is_slot_named, slot_is, fault_in}
 
 -- where a site of that name stands
 abbrev pub place_named : {D : Type 0} → List (Slot D) → Name → Option ℕ
@@ -21,6 +21,11 @@ slot_at slots (Some i) = slice_get slots i
 
 abbrev pub slot_named : {D : Type 0} → List (Slot D) → Name → Option (Slot D)
 slot_named slots name = slot_at slots (place_named slots name)
+
+-- a site in such a state has that name
+abbrev pub slot_is_in : {D : Type 0} → (State → Bool) → Option (Slot D) → Bool
+slot_is_in test None = false
+slot_is_in test (Some slot) = slot_is test slot
 
 -- no site of that name stands
 abbrev pub missing : {D : Type 0} → Name → Option (Slot D) → Option Refusal

@@ -1,4 +1,19 @@
 // Sites that were opened, and are closed again.
+ghost use Rattle.std.specs.Prelude.{◌≡◌, ◌++◌, ℕ, Some, IfOk, OnOk, IsErrOf};
+ghost use Rattle.site_store.specs.Reigning.{HasNoReignLeft};
+ghost use Rattle.site_store.specs.Site.{WasOpened};
+ghost use Rattle.site_store.specs.Owning.{disk_of, memory_of, IsGoing};
+ghost use Rattle.wire_defs.specs.Links.{Linking};
+ghost use Rattle.global_defs.specs.Prefix.{History};
+ghost use Rattle.command_defs.specs.Commands.{Name};
+ghost use Rattle.world_defs.specs.Answers.{ReignLimit, fault_line};
+ghost use Rattle.site_runner.specs.declared.ending.Ended.TheVariants.{Failed};
+ghost use Rattle.site_runner.specs.Causes.{cause_value};
+ghost use Rattle.site_runner.specs.Ending.{down, failed};
+ghost use Rattle.site_runner.specs.Linked.{FollowsOpened, RefusesOver, history_on};
+ghost use Rattle.site_runner.specs.Sites.{disk_in, site_in, IsReadySlot};
+ghost use Rattle.site_runner.specs.Starting.{BeginsAt};
+
 use super::answering::{fail, refuse};
 use super::cause::Cause;
 use super::ending::{Ended, closed};
@@ -13,7 +28,12 @@ pub fn unclosed<D: Disk>(
     error: SiteError,
     name: Bytes,
     text: &mut Bytes,
-) -> (Slot<D>, Result<Ended, NoMemory>) {
+) -> (Slot<D>, Result<Ended, NoMemory>)
+    ensures ready { IsReadySlot D.disk result.0 }
+    ensures disk { disk_in result.0 ≡ disk }
+    ensures failed { (fault : ℕ) → error ≡ SiteError.Failed fault → IfOk result.1 (λ ended. (ended ≡ Failed fault) × (site_in result.0 ≡ Some (failed name fault)) × (text.new ≡ text.old ++ fault_line name fault)) }
+    ensures memory { ((fault : ℕ) → error ≡ SiteError.Failed fault → ⊥) → IsErrOf result.1 NoMemory }
+{
     match error {
         SiteError::Failed { fault } => {
             let ended = fail(text, name.as_slice(), fault);
@@ -29,7 +49,16 @@ pub fn refuse_opened<D: Disk>(
     name: Bytes,
     cause: &Cause,
     text: &mut Bytes,
-) -> (Slot<D>, Result<Ended, NoMemory>) {
+) -> (Slot<D>, Result<Ended, NoMemory>)
+    requires ready { IsGoing D.disk site }
+    requires opened { WasOpened (memory_of site) }
+    ensures ready { OnOk result.1 (IsReadySlot D.disk result.0) }
+    // a START PRIMARY past the limit of reigns
+    ensures past { cause_value cause.now ≡ ReignLimit → HasNoReignLeft (memory_of site) → BeginsAt D.disk (D.disk (disk_of site)) (memory_of site) (down name) result text.old text.new }
+    // a START SECONDARY that its primary refused, or whose connections were cut
+    ensures refused { (theirs : History) (primary : Name) (i : ℕ) (links links_now : Linking) → RefusesOver (cause_value cause.now) theirs (history_on site) i links links_now
+        → FollowsOpened D.disk theirs primary i links links_now (D.disk (disk_of site)) (memory_of site) (down name) result text.old text.new }
+{
     match site.close() {
         (disk, Ok(())) => {
             let ended = refuse(text, name.as_slice(), cause);

@@ -1,11 +1,23 @@
 // START SECONDARY.
-ghost use Rattle.std.specs.Prelude.{◌≡◌, ◌<◌, length, OnOk, OnErr};
-ghost use Rattle.global_defs.specs.declared.limits.TheConstants.{NUMBERS_END};
-ghost use Rattle.command_defs.specs.Commands.{IsFormed, StartSecondary};
+ghost use Rattle.std.specs.Prelude.{◌≡◌, ℕ, length, Some, is_some, IsTrue, IfSome, OnOk, OnErr};
+ghost use Rattle.std.specs.List.{AllByRecursion};
+ghost use Rattle.global_defs.specs.Fields.{IsSiteName};
+ghost use Rattle.global_defs.specs.Prefix.{History};
+ghost use Rattle.gvn_model.specs.Entries.{history_value};
+ghost use Rattle.lineage_defs.specs.Histories.{IsMatched};
+ghost use Rattle.wire_defs.specs.Links.{Linking};
+ghost use Rattle.command_defs.specs.Commands.{Name, IsFormed, StartSecondary};
+ghost use Rattle.world_defs.specs.World.{Place};
+ghost use Rattle.site_store.specs.Site.{WasOpened};
+ghost use Rattle.site_store.specs.Owning.{disk_of, memory_of, IsGoing};
+ghost use Rattle.site_runner.specs.Ending.{down};
 ghost use Rattle.site_runner.specs.Executes.{Executes, IsCutOff};
-ghost use Rattle.site_runner.specs.Sites.{IsReadySlot, AreReady};
+ghost use Rattle.site_runner.specs.Linked.{FollowsOver, FollowsOpened, IsAnsweredOver, IsTooLong, IsTellable, IsPrimaryOf, history_on};
+ghost use Rattle.site_runner.specs.Pairs.{slot_named, slot_is_in};
+ghost use Rattle.site_runner.specs.Sites.{is_primary, HasSession, IsReadySlot, AreReady};
+ghost use Rattle.site_runner.specs.Tied.{IsPlace};
 
-use super::answering::{bad_frame, refuse};
+use super::answering::{bad_frame, damaged, refuse};
 use super::cause::Cause;
 use super::closing::{refuse_opened, unclosed};
 use super::ending::{Ended, closed};
@@ -13,7 +25,7 @@ use super::finding::{find, put_back};
 use super::naming::{find_both, is_down, is_primary};
 use super::secondary::Secondary;
 use super::slot::Slot;
-use super::start::{load_named, unopened};
+use super::start::{is_named, unopened};
 use super::text::write_follows;
 use gvn_key::{Bytes, NoMemory};
 use gvn_model::History;
@@ -24,6 +36,7 @@ use repl_section::Follower;
 use session_handshake::{SessionError, handshake};
 use site_store::Site;
 use std::alloc::Global;
+use world_laws::leftovers::{files_stand_for_one, leftovers_hold};
 
 /// Closes a site that was opened again, and answers that the primary's bytes have no admissible frame at that place.
 fn break_off<D: Disk>(
@@ -31,7 +44,12 @@ fn break_off<D: Disk>(
     name: Bytes,
     offset: u64,
     text: &mut Bytes,
-) -> (Slot<D>, Result<Ended, NoMemory>) {
+) -> (Slot<D>, Result<Ended, NoMemory>)
+    requires ready { IsGoing D.disk site }
+    requires opened { WasOpened (memory_of site) }
+    ensures ready { OnOk result.1 (IsReadySlot D.disk result.0) }
+    ensures left { (theirs : History) (primary : Name) (i : ℕ) (links links_now : Linking) → IsTooLong links.told (history_on site) offset → IsAnsweredOver i links links_now → FollowsOpened D.disk theirs primary i links links_now (D.disk (disk_of site)) (memory_of site) (down name) result text.old text.new }
+{
     match site.close() {
         (disk, Ok(())) => {
             let ended = bad_frame(text, name.as_slice(), offset);
@@ -49,7 +67,13 @@ fn begin_following<D: Disk>(
     session: u32,
     primary: Bytes,
     text: &mut Bytes,
-) -> (Slot<D>, Result<Ended, NoMemory>) {
+) -> (Slot<D>, Result<Ended, NoMemory>)
+    requires ready { IsGoing D.disk site }
+    requires opened { WasOpened (memory_of site) }
+    ensures ready { OnOk result.1 (IsReadySlot D.disk result.0) }
+    ensures left { (theirs : History) (links links_now : Linking) → (IsTrue links.told → IsMatched theirs (history_on site)) → IsAnsweredOver session links links_now → FollowsOpened D.disk theirs primary session links links_now (D.disk (disk_of site)) (memory_of site) (down name) result text.old text.new }
+    ensures session { OnOk result.1 (HasSession session result.0) }
+{
     let from = site.sequence_length() + 1;
     let written = write_follows(text, name.as_slice(), primary.as_slice(), from);
     let secondary = Secondary {
@@ -76,7 +100,15 @@ fn ask<D: Disk, L: Linker>(
     primary: Bytes,
     links: &mut L,
     text: &mut Bytes,
-) -> (Slot<D>, Result<Ended, NoMemory>) {
+) -> (Slot<D>, Result<Ended, NoMemory>)
+    requires ready { IsGoing D.disk site }
+    requires opened { WasOpened (memory_of site) }
+    requires name { IsSiteName name }
+    requires theirs { IsTellable theirs.now }
+    ensures ready { OnOk result.1 (IsReadySlot D.disk result.0) }
+    ensures session { OnOk result.1 (HasSession session result.0) }
+    ensures left { FollowsOpened D.disk (history_value theirs.now) primary session (L.links links.old) (L.links links.new) (D.disk (disk_of site)) (memory_of site) (down name) result text.old text.new }
+{
     match handshake(alloc, theirs, site.history(), &name, links, session) {
         Ok(Handshake::Resume(_)) => begin_following(alloc, site, name, session, primary, text),
         Ok(Handshake::RollbackFirst(number)) => {
@@ -98,15 +130,35 @@ fn start_at<D: Disk, L: Linker>(
     primary: Bytes,
     links: &mut L,
     text: &mut Bytes,
-) -> (Slot<D>, Result<Ended, NoMemory>) {
-    match load_named(alloc, disk, name.as_slice()) {
-        Ok(site) => ask(alloc, theirs, site, name, session, primary, links, text),
+) -> (Slot<D>, Result<Ended, NoMemory>)
+    requires name { IsSiteName name }
+    requires theirs { IsTellable theirs.now }
+    ensures ready { OnOk result.1 (IsReadySlot D.disk result.0) }
+    ensures session { OnOk result.1 (HasSession session result.0) }
+    ensures left { FollowsOver D.disk (history_value theirs.now) primary session (L.links links.old) (L.links links.new) (Slot.Down disk name) result text.old text.new }
+{
+    leftovers_hold();
+    files_stand_for_one();
+    match Site::load(alloc, disk) {
+        Ok(site) => {
+            if is_named(&site, name.as_slice()) {
+                ask(alloc, theirs, site, name, session, primary, links, text)
+            } else {
+                let ended = damaged(text, name.as_slice(), 0, 0);
+                closed(site.abandon(), name, ended)
+            }
+        }
         Err((disk, error)) => unopened(alloc, disk, error, name, text),
     }
 }
 
 /// The history of the primary of that name.
-pub fn history_at<'a, D: Disk>(slots: &'a [Slot<D>], name: &[u8]) -> Option<&'a History> {
+pub fn history_at<'a, D: Disk>(slots: &'a [Slot<D>], name: &[u8]) -> Option<&'a History>
+    requires { AllByRecursion (IsReadySlot D.disk) slots.now }
+    ensures some { slot_is_in is_primary (slot_named slots.now name.now) ≡ is_some result }
+    ensures tellable { IfSome result (λ theirs. IsTellable theirs.now) }
+    ensures theirs { IfSome result (λ theirs. (slot : Slot D) (a : Place) → slot_named slots.now name.now ≡ Some slot → IsPlace D.disk slot a → IsPrimaryOf (history_value theirs.now) name.now a) }
+{
     match &slots[find(slots, name)?] {
         Slot::Open { reign, .. } => Some(reign.site.history()),
         _ => None,

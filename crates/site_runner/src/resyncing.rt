@@ -1,8 +1,17 @@
 // ROLLBACK FETCHRESYNC.
-ghost use Rattle.std.specs.Prelude.{◌≡◌, length, OnOk, OnErr};
-ghost use Rattle.command_defs.specs.Commands.{IsFormed, Fetchresync};
-ghost use Rattle.site_runner.specs.Executes.{Executes, IsCutOff};
+ghost use Rattle.std.specs.Prelude.{◌≡◌, length, IfOk, OnOk, OnErr};
+ghost use Rattle.global_defs.specs.Fields.{IsSiteName};
+ghost use Rattle.gvn_model.specs.Entries.{history_value};
+ghost use Rattle.command_defs.specs.Commands.{Name, IsFormed, Fetchresync};
+ghost use Rattle.world_defs.specs.World.{Place};
+ghost use Rattle.world_defs.specs.Step.{LeftByRow};
+ghost use Rattle.world_defs.specs.Ties.{Matches};
+ghost use Rattle.world_defs.specs.rows.Fetch.{fetch, asked_to_fetch};
+ghost use Rattle.site_runner.specs.Ending.{down, down_after, is_done_at};
+ghost use Rattle.site_runner.specs.Executes.{ComesOver, Executes, IsCutOff};
+ghost use Rattle.site_runner.specs.Linked.{AsksOver, FetchesOver, IsCutFetch, IsPrimaryOf, IsReadAt, IsTellable};
 ghost use Rattle.site_runner.specs.Sites.{AreReady};
+ghost use Rattle.site_runner.specs.Steps.{IsAt};
 
 use super::answering::{bad_frame, damaged, fail, refuse};
 use super::cause::Cause;
@@ -33,7 +42,16 @@ fn roll_shared<D: Disk, L: Linker>(
     session: u32,
     links: &mut L,
     text: &mut Bytes,
-) -> Result<Ended, NoMemory> {
+) -> Result<Ended, NoMemory>
+    requires name { IsSiteName name.now }
+    requires theirs { IsTellable (history_value theirs.now) }
+    requires mine { IsTellable (history_value mine.now) }
+    // whatever place the site was read at, with that history
+    ensures done { (p a : Place) → IsReadAt (D.disk disk.old) (down name.now) (history_value mine.now) p → (primary : Name) → IsPrimaryOf (history_value theirs.now) primary a
+        → IfOk result (λ ended. ComesOver (fetch (L.links links.old).told a name.now p) (IsAt (D.disk disk.new) (down_after name.now ended)) (AsksOver asked_to_fetch session (L.links links.old) (L.links links.new)) text.old text.new (is_done_at ended)) }
+    ensures cut_off { (p a : Place) → IsReadAt (D.disk disk.old) (down name.now) (history_value mine.now) p → (primary : Name) → IsPrimaryOf (history_value theirs.now) primary a
+        → OnErr result ((q : Place) × LeftByRow (fetch (L.links links.old).told a name.now p) p q × Matches (D.disk disk.new) q) }
+{
     match handshake(alloc, theirs, mine, name, links, session) {
         Ok(answer) => {
             let rolled = fetchresync(alloc, disk, &answer);
@@ -54,7 +72,12 @@ fn roll_down<D: Disk, L: Linker>(
     session: u32,
     links: &mut L,
     text: &mut Bytes,
-) -> Result<Ended, NoMemory> {
+) -> Result<Ended, NoMemory>
+    requires name { IsSiteName name.now }
+    requires theirs { IsTellable (history_value theirs.now) }
+    ensures done { (primary : Name) → IfOk result (λ ended. FetchesOver (history_value theirs.now) primary session (L.links links.old) (L.links links.new) (D.disk disk.old) name.now (D.disk disk.new) ended text.old text.new) }
+    ensures cut_off { (primary : Name) → OnErr result (IsCutFetch (history_value theirs.now) primary (L.links links.old) (D.disk disk.old) name.now (D.disk disk.new)) }
+{
     match history_of(alloc, disk) {
         Ok(mine) => roll_shared(alloc, theirs, &mine, disk, name, session, links, text),
         Err(SiteError::Failed { fault }) => fail(text, name.as_slice(), fault),

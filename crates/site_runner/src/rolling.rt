@@ -1,10 +1,14 @@
 // ROLLBACK RESYNC.
-ghost use Rattle.std.specs.Prelude.{◌≡◌, ◌≤◌, length, IfOk, OnOk, OnErr};
+ghost use Rattle.std.specs.Prelude.{◌≡◌, ◌≤◌, ◌++◌, ℕ, length, codes, IfOk, IfSome, IsErrOf, OnOk, OnErr};
+ghost use Rattle.std.specs.Fmt.{decimal};
 ghost use Rattle.wire_defs.specs.Links.{Linking};
 ghost use Rattle.command_defs.specs.Commands.{IsFormed, Resync};
+ghost use Rattle.world_defs.specs.Answers.{GenLimit, line, cause_text, fault_line, damage_line};
 ghost use Rattle.world_defs.specs.rows.Rollback as rows;
 ghost use Rattle.world_defs.specs.Meaning.{row_at};
+ghost use Rattle.site_runner.specs.declared.ending.Ended.TheVariants.{Done, Undone, Failed};
 ghost use Rattle.site_runner.specs.Ending.{down, down_after, is_done_at};
+ghost use Rattle.site_runner.specs.Refusing.{Refusable, IsAskedBy, NeedsForward, RefusesAt, IsCutDown};
 ghost use Rattle.site_runner.specs.Executes.{Leaves, Executes, IsCutOff};
 ghost use Rattle.site_runner.specs.Sites.{IsReadySlot, AreReady};
 ghost use Rattle.site_runner.specs.Steps.{ExecutesAt, IsCutAt};
@@ -38,7 +42,10 @@ pub fn tell_rolled<D: Disk>(
     ensures limit { IsErrOf rolled RollError.GenLimit → IfOk result (λ ended. (ended ≡ Undone) × (text.new ≡ text.old ++ line name.now (cause_text GenLimit))) }
     ensures fault { (fault : ℕ) → IsErrOf rolled (RollError.Failed fault) → IfOk result (λ ended. (ended ≡ Failed fault) × (text.new ≡ text.old ++ fault_line name.now fault)) }
     ensures damage { (file offset : ℕ) → IsErrOf rolled (RollError.NotAFile file offset) → IfOk result (λ ended. (ended ≡ Undone) × (text.new ≡ text.old ++ damage_line name.now file offset)) }
-    ensures region { (region generation : ℕ) → IsErrOf rolled (RollError.NoBeforeImage region generation) → (p : Place) → NeedsForward (D.disk disk.old) region (Needing.Rollback generation) p → RefusesAt (D.disk disk.old) (D.disk disk.new) region (Needing.Rollback generation) p result text.old text.new }
+    ensures region { (region generation : ℕ) → IsErrOf rolled (RollError.NoBeforeImage region generation) → (command : Refusable) → IsAskedBy command (Needing.Rollback generation)
+        → IfSome (D.disk disk.old).content (NeedsForward command (Needing.Rollback generation) region)
+        → IfOk result (λ ended. RefusesAt command (Needing.Rollback generation) (D.disk disk.old) (down name.now) (D.disk disk.new) (down_after name.now ended) text.old text.new (is_done_at ended)) }
+    ensures cut_off { (region generation : ℕ) → IsErrOf rolled (RollError.NoBeforeImage region generation) → (command : Refusable) → OnErr result (IsCutDown command (D.disk disk.old) (down name.now) (D.disk disk.new)) }
     ensures disk { ((region generation : ℕ) → IsErrOf rolled (RollError.NoBeforeImage region generation) → ⊥) → disk.new ≡ disk.old }
     ensures memory { IsErrOf rolled RollError.NoMemory → IsErrOf result NoMemory }
 {

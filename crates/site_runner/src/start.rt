@@ -7,6 +7,7 @@ ghost use Rattle.site_store.specs.Owning.{disk_of, memory_of, IsGoing};
 ghost use Rattle.site_runner.specs.Ending.{down};
 ghost use Rattle.site_runner.specs.Executes.{Leaves};
 ghost use Rattle.site_runner.specs.Sites.{IsReadySlot};
+ghost use Rattle.site_runner.specs.Linked.{FollowsUnopened};
 ghost use Rattle.site_runner.specs.Starting.{BeginsAt, LeavesUnopened};
 
 use super::answering::{damaged, fail, refuse};
@@ -24,7 +25,7 @@ use std::alloc::Global;
 use world_laws::leftovers::{files_stand_for_one, leftovers_hold};
 
 /// Whether the site that was opened has this name.
-fn is_named<D: Disk>(site: &Site<D>, name: &[u8]) -> bool
+pub fn is_named<D: Disk>(site: &Site<D>, name: &[u8]) -> bool
     ensures { MatchBool result ((memory_of site.now).layout.name ≡ name.now) ((memory_of site.now).layout.name ≢ name.now) }
 {
     site.layout().name.as_slice() == name
@@ -77,6 +78,7 @@ pub fn unopened<D: Disk>(
 ) -> (Slot<D>, Result<Ended, NoMemory>)
     ensures ready { OnOk result.1 (IsReadySlot D.disk result.0) }
     ensures left { LeavesUnopened D.disk disk error name result text.old text.new }
+    ensures followed { FollowsUnopened D.disk disk error name result text.old text.new }
 {
     leftovers_hold();
     match error {
@@ -101,15 +103,6 @@ pub fn unopened<D: Disk>(
     }
 }
 
-/// Opens the site of that name. Where another site's instance file stands, it isn't this site's: its place is told then.
-pub fn load_named<D: Disk>(alloc: Global, disk: D, name: &[u8]) -> Result<Site<D>, (D, SiteError)> {
-    let site = Site::load(alloc, disk)?;
-    if is_named(&site, name) {
-        return Ok(site);
-    }
-    Err((site.abandon(), SiteError::NotAFile { file: 0, offset: 0 }))
-}
-
 /// Opens a site that is down, and begins its reign. Where another site's instance file stands, it isn't this site's.
 pub fn start<D: Disk>(
     alloc: Global,
@@ -122,8 +115,18 @@ pub fn start<D: Disk>(
 {
     leftovers_hold();
     files_stand_for_one();
-    match load_named(alloc, disk, name.as_slice()) {
-        Ok(site) => begin(alloc, site, name, text),
-        Err((disk, error)) => unopened(alloc, disk, error, name, text),
+    match Site::load(alloc, disk) {
+        Ok(site) => {
+            if is_named(&site, name.as_slice()) {
+                begin(alloc, site, name, text)
+            } else {
+                let ended = damaged(text, name.as_slice(), 0, 0);
+                closed(site.abandon(), name, ended)
+            }
+        }
+        Err(failure) => {
+            let (disk, error) = failure;
+            unopened(alloc, disk, error, name, text)
+        }
     }
 }

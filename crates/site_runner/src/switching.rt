@@ -1,8 +1,15 @@
 // SWITCH.
-ghost use Rattle.std.specs.Prelude.{◌≡◌, length, OnOk, OnErr};
+ghost use Rattle.std.specs.Prelude.{◌≡◌, length, None, IfOk, OnOk, OnErr};
+ghost use Rattle.wire_defs.specs.Links.{Linking};
+ghost use Rattle.world_defs.specs.World.{World};
+ghost use Rattle.world_defs.specs.Step.{refusal};
 ghost use Rattle.command_defs.specs.Commands.{IsFormed, Switch};
 ghost use Rattle.site_runner.specs.Executes.{Executes, IsCutOff};
+ghost use Rattle.site_runner.specs.Ending.{is_done_at};
+ghost use Rattle.site_runner.specs.Sites as sites;
 ghost use Rattle.site_runner.specs.Sites.{AreReady};
+ghost use Rattle.site_runner.specs.Switching.{ChangesPlaces};
+ghost use Rattle.site_runner.specs.Tied.{Tied};
 
 use super::answering::refuse;
 use super::cause::Cause;
@@ -18,7 +25,9 @@ use repl_script::Command;
 use std::alloc::Global;
 
 /// Whether a site that follows the one of that name stands there.
-fn is_following<D: Disk>(slot: &Slot<D>, name: &[u8]) -> bool {
+fn is_following<D: Disk>(slot: &Slot<D>, name: &[u8]) -> bool
+    ensures { result ≡ sites.slot_is (sites.is_following name.now) slot.now }
+{
     match slot {
         Slot::Secondary { secondary, .. } => {
             !secondary.waits && secondary.primary.as_slice() == name
@@ -34,7 +43,16 @@ fn change<D: Disk>(
     primary: &Bytes,
     secondary: &Bytes,
     text: &mut Bytes,
-) -> Result<Ended, NoMemory> {
+) -> Result<Ended, NoMemory>
+    requires formed { IsFormed (Switch primary.now secondary.now) }
+    requires ready { AreReady D.disk slots.old.items }
+    ensures ready { OnOk result (AreReady D.disk slots.new.items) }
+    // the first three of the four commands, from a world in which nothing refuses them all
+    ensures done { (links : Linking) (w : World) → Tied D.disk links slots.old.items w → refusal w (Switch primary.now secondary.now) ≡ None
+        → IfOk result (λ ended. ChangesPlaces D.disk links primary.now secondary.now w slots.new.items text.old text.new (is_done_at ended)) }
+    ensures cut_off { (links : Linking) → OnErr result (IsCutOff D.disk (Switch primary.now secondary.now) links slots.old.items slots.new.items) }
+    ensures length { length slots.new.items ≡ length slots.old.items }
+{
     let site = primary.copy()?;
     let ended = execute_named(alloc, slots, Command::Stop { site }, text)?;
     if !ended.is_done() {
