@@ -3,7 +3,7 @@ use Rattle.std.specs.Prelude.{◌≡◌, ◌≢◌, ◌⊎◌, ℕ, ◌+◌, ◌
 use Rattle.std.specs.List.{AllByRecursion}
 use Rattle.std.specs.Io.KnownBytes.{Appends, Consumes, IsAtEnd}
 use Rattle.global_defs.specs.declared.limits.TheConstants.{MOST_LINES}
-use Rattle.command_defs.specs.Commands.{Command, IsFormed}
+use Rattle.command_defs.specs.Commands.{Command, StartSecondary, Switch, IsFormed}
 use Rattle.command_defs.specs.Lines.{lines_of, ended}
 use Rattle.command_defs.specs.Script.{Position, Outside, Ends, line_reading, lines_reading, IsScript, IsBadAt}
 use Rattle.world_defs.specs.World.{World}
@@ -111,11 +111,21 @@ pub record RanTo (status : Status) (source left : Option (List ℕ)) (start afte
   pub went : Went status (take count (lines_of input)) start mid old new
   pub ends : EndsSo status (lines_of input) count went.position mid after
 
+-- a command by which no site comes to follow another one
+abbrev pub MakesNoFollower : Command → Type 0
+MakesNoFollower (StartSecondary name primary) = ⊥
+MakesNoFollower (Switch primary secondary) = ⊥
+MakesNoFollower c = Unit {0}
+
+-- among these commands there was none other
+abbrev pub NoneFollows : List Told → Type 0
+NoneFollows told = AllByRecursion MakesNoFollower (commands told)
+
 -- Where the disks were fit before the run, each outcome of each disk is fit behind it, and unless it ended for want of memory, which
--- may cut a command off, all of the world is.
-pub record StaysFit (status : Status) (start after : World) : Type 0 where
-  pub outcomes : IsFit start → AllByRecursion HasFitOutcomes after.places
-  pub world : status ≢ NoMemory → IsFit start → IsFit after
+-- may cut a command off, all of the world is. A site that follows another one takes what comes, so with START SECONDARY or SWITCH this is said of disks that share one history.
+pub record StaysFit (status : Status) (start : World) (told : List Told) (after : World) : Type 0 where
+  pub outcomes : NoneFollows told → IsFit start → AllByRecursion HasFitOutcomes after.places
+  pub world : NoneFollows told → status ≢ NoMemory → IsFit start → IsFit after
 
 -- a byte follows the last line feed that there may be, and the lines before it are in the grammar
 pub record IsTooLong (lines : List (List ℕ)) : Type 0 where

@@ -1,5 +1,5 @@
 -- What feeding the secondaries of a primary makes of slots, while the primary stands in none.
-use Rattle.std.specs.Prelude.{◌≡◌, ◌+◌, ℕ, Bool, true, false, nat_lt, List, ◌++◌, slice_get, Option, Some, None, option_map, if◌then◌else◌}
+use Rattle.std.specs.Prelude.{◌≡◌, ◌⊎◌, ◌+◌, ℕ, Bool, true, false, nat_lt, IsTrue, List, ◌++◌, length, slice_get, Option, Some, None, option_map, if◌then◌else◌}
 use Rattle.std.specs.List.{flat_map, enumerate_from}
 use Rattle.disk_defs.specs.Disk.{View}
 use Rattle.global_defs.specs.Beside.{Along}
@@ -10,14 +10,21 @@ use Rattle.world_defs.specs.World.{Place, is_follower_on, name_on}
 use Rattle.world_defs.specs.Sections as sections
 use Rattle.world_defs.specs.Sections.{End}
 use Rattle.world_defs.specs.Connecting.{Feeds, FeedsEach}
-use Rattle.world_defs.specs.rows.Feed.{EndsAs, IsFed, end_line, end_line_if}
+use Rattle.world_defs.specs.Changes.{LeftBy}
+use Rattle.world_defs.specs.Ties.{Matches}
+use Rattle.world_defs.specs.rows.Feed.{EndsAs, IsFed, MayTakeOf, MayTakeLeftOf, end_line_if}
+use Rattle.site_store.specs.Owning.{disk_of, memory_of, HasStopped, IsOpenSite}
+use Rattle.site_store.specs.Site.{count_of}
+use Rattle.repl_section.specs.declared.reign.Reign as code
 use Rattle.repl_section.specs.declared.feeding.FollowerEnd.{FollowerEnd}
 use Rattle.repl_section.specs.declared.feeding.FollowerEnd.TheVariants as ends
 use Rattle.site_runner.specs.declared.feeding.Met.{Met}
 use Rattle.site_runner.specs.declared.feeding.Met.TheVariants as meets
+use Rattle.site_runner.specs.declared.secondary.Secondary.{Secondary}
 use Rattle.site_runner.specs.declared.slot.Slot.{Slot}
+use Rattle.site_runner.specs.declared.slot.Slot.TheVariants as slots
 use Rattle.site_runner.specs.Linked.{links_of}
-use Rattle.site_runner.specs.Sites.{site_in, site_value, HasSession}
+use Rattle.site_runner.specs.Sites.{Site, State, Following, Second, Failed, disk_in, site_in, site_value, following_in, HasSession, IsReadyOpen}
 use Rattle.site_runner.specs.Tied.{IsPlace}
 
 abbrev pub end_value : FollowerEnd → End
@@ -60,3 +67,42 @@ pub record FeedsAll {D : Type 0} (view : D → View) (links links_now : Linking)
   pub none_there : ends hole ≡ None
   pub linked : FeedsEach ends (links_of links) (links_of links_now)
   pub lines : now ≡ before ++ flat_map (λ x. end_line_if (name_on (option_map site_value (site_in x.1))) (ends (beside hole x.0))) (enumerate_from 0 old)
+
+-- A secondary of the primary that is fed, or of that name where it's asked for.
+abbrev pub IsOwner : {D : Type 0} → Name → Slot D → Type 0
+IsOwner called slot = IsTrue (is_fed called slot)
+
+abbrev pub session_of : {D : Type 0} → Slot D → ℕ
+session_of (slots.Free disk) = 0
+session_of (slots.Down disk name) = 0
+session_of (slots.Open r name) = 0
+session_of (slots.Secondary s name) = s.value.follower.session
+session_of (slots.Failed disk name fault) = 0
+
+abbrev pub name_in : {D : Type 0} → Slot D → Name
+name_in slot = name_on (option_map site_value (site_in slot))
+
+-- What a primary has met so far: its site goes on with all entries hardened, or its disk has failed, or a file of it is outside the formats.
+abbrev pub Meets : {D : Type 0} → (D → View) → Met → code.Reign D → Type 0
+Meets view meets.Nothing r = IsReadyOpen view r × ((memory_of r.site).hardened ≡ count_of (memory_of r.site))
+Meets view (meets.Fault undecided) r = HasStopped (view (disk_of r.site)).faults r.site
+Meets view (meets.Damage file offset) r = IsReadyOpen view r × ((memory_of r.site).hardened ≡ count_of (memory_of r.site)) × ((c : Contents) (h : ℕ) → IsOpenSite view true c h r.site → ⊥)
+
+-- the state of a secondary behind a session that ended so
+abbrev pub fed_state : Following → FollowerEnd → Bool → State
+fed_state s (ends.DiskFault fault) caught_up = Failed fault
+fed_state s (ends.At n) caught_up = Second (record s { waits = if caught_up then false else s.waits })
+fed_state s (ends.LinkCut n) caught_up = Second s
+fed_state s (ends.RollbackFirst n) caught_up = Second s
+fed_state s (ends.BadFrame offset) caught_up = Second s
+
+abbrev pub fed_site : {D : Type 0} → Name → Secondary D → FollowerEnd → Bool → Site
+fed_site name s end caught_up = record { name = name; state = fed_state (following_in s) end caught_up }
+
+-- A secondary's session was cut off for want of memory.
+abbrev pub IsCutSlot : {D : Type 0} → (D → View) → Bool → Contents → Slot D → Slot D → Type 0
+IsCutSlot view told from old new = (x : Place) → IsPlace view old x → (y : Place) × LeftBy (MayTakeOf told from) (MayTakeLeftOf told from) x y × Matches (view (disk_in new)) y
+
+-- Feeding was cut off: each secondary of that primary may have taken some.
+abbrev pub IsCutFeeding : {D : Type 0} → (D → View) → Bool → Name → Contents → List (Slot D) → List (Slot D) → Type 0
+IsCutFeeding view told name from old new = Along (λ k was is. (IsTrue (is_fed name was) × IsCutSlot view told from was is) ⊎ (is ≡ was)) old new

@@ -7,6 +7,7 @@ use Rattle.wire_defs.specs.Links.{Linking}
 use Rattle.command_defs.specs.Commands.{Command, IsFormed}
 use Rattle.command_defs.specs.Script.{Position, Outside, Within, Wrong, Ends, line_reading}
 use Rattle.world_defs.specs.World.{World}
+use Rattle.world_defs.specs.Ties.{AreLinked}
 use Rattle.world_defs.specs.Answers.{Answer}
 use Rattle.world_defs.specs.Step.{Step, CutOff}
 use Rattle.world_defs.specs.Runs.{Told, Runs, commands}
@@ -64,7 +65,7 @@ Halts (BadLine n at) view links links_now number p old new line before now rose 
 Halts ScriptTooLong view links links_now number p old new line before now rose = ⊥
 Halts SourceFault view links links_now number p old new line before now rose = ⊥
 Halts SinkFault view links links_now number p old new line before now rose = rose × ((start : World) (taken : List (List ℕ)) (out : Option (List ℕ)) → Going view links start old taken p out before
-    → (mid : World) × Matched view new mid × Went SinkFault (taken ++ line ∷ []) start mid out now)
+    → (mid : World) × Matched view new mid × AreLinked links_now mid.links × Went SinkFault (taken ++ line ∷ []) start mid out now)
 Halts NoMemory view links links_now number p old new line before now rose = (now ≡ before) × ((mid : World) → Tied view links old mid → StopsAt view new p line mid)
 
 -- the next line was taken

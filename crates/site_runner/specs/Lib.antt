@@ -18,6 +18,7 @@ pub mod Recovering
 pub mod Refusing
 pub mod Linked
 pub mod Feeding
+pub mod Sections
 pub mod Waiting
 pub mod Switching
 pub mod Setting

@@ -1,6 +1,15 @@
 // The secondaries of a primary in a section.
-ghost use Rattle.std.specs.Prelude.{◌≡◌, length, OnOk};
-ghost use Rattle.site_runner.specs.Sites.{AreReady, IsReadySlot};
+ghost use Rattle.std.specs.Prelude.{◌≡◌, ◌++◌, ◌≤◌, ℕ, length, Some, IsTrue, IfOk, IfSome, OnOk, OnErr};
+ghost use Rattle.std.specs.List.{AllByRecursion};
+ghost use Rattle.disk_defs.specs.Disk.{Reads};
+ghost use Rattle.command_defs.specs.Commands.{Name};
+ghost use Rattle.global_defs.specs.Fields.{IsSiteName};
+ghost use Rattle.site_defs.specs.Contents.{Contents};
+ghost use Rattle.site_store.specs.Owning.{disk_of, memory_of, IsOpenSite};
+ghost use Rattle.world_defs.specs.rows.Feed.{end_line};
+ghost use Rattle.site_runner.specs.Feeding as feeding;
+ghost use Rattle.site_runner.specs.Feeding.{end_value, FeedsSlot, FeedsAll, IsCutFeeding, IsCutSlot, HaveSessions, IsOwner, Meets, fed_site, is_whole_so_far, name_in, session_of};
+ghost use Rattle.site_runner.specs.Sites.{disk_in, site_in, name_of, IsReadySlot, IsReadySecondary, HasSession};
 
 use super::finding::put_back_swapped;
 use super::secondary::Secondary;
@@ -35,7 +44,7 @@ impl Met {
 
 /// Adds the line of how a session ended.
 fn write_end(text: &mut Bytes, name: &[u8], end: FollowerEnd) -> Result<(), NoMemory>
-    ensures { OnOk result (text.new ≡ text.old ++ follower_line name.now (follower_end_value end)) }
+    ensures { OnOk result (text.new ≡ text.old ++ end_line name.now (end_value end)) }
 {
     match end {
         FollowerEnd::At(number) => write_numbered(text, name, b"AT ", number),
@@ -48,7 +57,10 @@ fn write_end(text: &mut Bytes, name: &[u8], end: FollowerEnd) -> Result<(), NoMe
 
 /// What a session that came to that left of a secondary. One that has caught up follows its primary, and one whose disk has failed is
 /// given up.
-fn left_behind<D: Disk>(mut secondary: Box<Secondary<D>>, name: Bytes, fed: Fed) -> Slot<D> {
+fn left_behind<D: Disk>(mut secondary: Box<Secondary<D>>, name: Bytes, fed: Fed) -> Slot<D>
+    ensures disk { disk_in result ≡ disk_of secondary.value.follower.site }
+    ensures site { site_in result ≡ Some (fed_site name secondary.value fed.end fed.caught_up) }
+{
     if let FollowerEnd::DiskFault(fault) = fed.end {
         let disk = Box::into_inner(secondary).follower.site.abandon();
         return Slot::Failed { disk, name, fault };
@@ -68,7 +80,20 @@ fn feed_secondary<D: Disk, L: Linker>(
     name: Bytes,
     links: &mut L,
     text: &mut Bytes,
-) -> (Slot<D>, Result<Met, NoMemory>) {
+) -> (Slot<D>, Result<Met, NoMemory>)
+    requires primary { Meets D.disk met primary.old }
+    requires ready { IsReadySecondary D.disk secondary.value }
+    requires name { IsSiteName name }
+    ensures ready { OnOk result.1 (IsReadySlot D.disk result.0) }
+    ensures session { OnOk result.1 (HasSession secondary.value.follower.session result.0) }
+    ensures primary { IfOk result.1 (λ now. Meets D.disk now primary.new) }
+    ensures kept { (memory_of primary.new.site ≡ memory_of primary.old.site) × (primary.new.serials ≡ primary.old.serials) }
+    ensures reads { Reads (D.disk (disk_of primary.old.site)) (D.disk (disk_of primary.new.site)) }
+    // whatever the primary is open with, over the session's connections
+    ensures fed { (from : Contents) → IsOpenSite D.disk true from (length from.sequence) primary.old.site → (called : Name) → IsOwner called (Slot.Secondary secondary name)
+        → IfOk result.1 (λ now. (end : FollowerEnd) × FeedsSlot D.disk (L.links links.old) (L.links links.new) called from (is_whole_so_far now) secondary.value.follower.session (end_value end) (Slot.Secondary secondary name) result.0 × (text.new ≡ text.old ++ end_line name (end_value end))) }
+    ensures cut_off { (from : Contents) → IsOpenSite D.disk true from (length from.sequence) primary.old.site → OnErr result.1 (IsCutSlot D.disk (L.links links.old).told from (Slot.Secondary secondary name) result.0) }
+{
     let follower = &mut secondary.as_mut().follower;
     let fed = match met {
         Met::Nothing => feed(alloc, primary, &name, follower, links),
@@ -89,7 +114,9 @@ fn feed_secondary<D: Disk, L: Linker>(
 }
 
 /// Whether a secondary of the primary of that name stands there.
-fn is_fed<D: Disk>(slot: &Slot<D>, name: &[u8]) -> bool {
+fn is_fed<D: Disk>(slot: &Slot<D>, name: &[u8]) -> bool
+    ensures { result ≡ feeding.is_fed name.now slot.now }
+{
     match slot {
         Slot::Secondary { secondary, .. } => secondary.primary.as_slice() == name,
         _ => false,
@@ -104,7 +131,21 @@ fn feed_slot<D: Disk, L: Linker>(
     slot: Slot<D>,
     links: &mut L,
     text: &mut Bytes,
-) -> (Slot<D>, Result<Met, NoMemory>) {
+) -> (Slot<D>, Result<Met, NoMemory>)
+    requires primary { Meets D.disk met primary.old }
+    requires ready { IsReadySlot D.disk slot }
+    requires secondary { (called : Name) × IsTrue (feeding.is_fed called slot) }
+    requires name { IfSome (name_of slot) IsSiteName }
+    ensures ready { OnOk result.1 (IsReadySlot D.disk result.0) }
+    ensures session { OnOk result.1 (HasSession (session_of slot) result.0) }
+    ensures primary { IfOk result.1 (λ now. Meets D.disk now primary.new) }
+    ensures kept { (memory_of primary.new.site ≡ memory_of primary.old.site) × (primary.new.serials ≡ primary.old.serials) }
+    ensures reads { Reads (D.disk (disk_of primary.old.site)) (D.disk (disk_of primary.new.site)) }
+    // whatever the primary is open with, over the session's connections
+    ensures fed { (from : Contents) → IsOpenSite D.disk true from (length from.sequence) primary.old.site → (called : Name) → IsOwner called slot
+        → IfOk result.1 (λ now. (end : FollowerEnd) × FeedsSlot D.disk (L.links links.old) (L.links links.new) called from (is_whole_so_far now) (session_of slot) (end_value end) slot result.0 × (text.new ≡ text.old ++ end_line (name_in slot) (end_value end))) }
+    ensures cut_off { (from : Contents) → IsOpenSite D.disk true from (length from.sequence) primary.old.site → OnErr result.1 (IsCutSlot D.disk (L.links links.old).told from slot result.0) }
+{
     match slot {
         Slot::Secondary { secondary, name } => {
             feed_secondary(alloc, primary, met, secondary, name, links, text)
@@ -124,8 +165,20 @@ pub fn feed_all<D: Disk, L: Linker>(
     links: &mut L,
     text: &mut Bytes,
 ) -> Result<Met, NoMemory>
-    requires ready { AreReady D.disk slots.old.items }
-    ensures ready { OnOk result (AreReady D.disk slots.new.items) }
+    requires primary { Meets D.disk met primary.old }
+    requires name { IsSiteName called.now }
+    requires ready { AllByRecursion (IsReadySlot D.disk) slots.old.items }
+    requires names { AllByRecursion (λ slot. IfSome (name_of slot) IsSiteName) slots.old.items }
+    ensures ready { OnOk result (AllByRecursion (IsReadySlot D.disk) slots.new.items) }
+    ensures sessions { (hole : ℕ) → HaveSessions hole slots.old.items → OnOk result (HaveSessions hole slots.new.items) }
+    ensures primary { IfOk result (λ now. Meets D.disk now primary.new) }
+    ensures kept { (memory_of primary.new.site ≡ memory_of primary.old.site) × (primary.new.serials ≡ primary.old.serials) }
+    ensures reads { Reads (D.disk (disk_of primary.old.site)) (D.disk (disk_of primary.new.site)) }
+    ensures faults { (D.disk (disk_of primary.old.site)).faults ≤ (D.disk (disk_of primary.new.site)).faults }
+    // where the primary's slot, which stood at that place, is taken out
+    ensures fed { (hole : ℕ) → HaveSessions hole slots.old.items → (from : Contents) → IsOpenSite D.disk true from (length from.sequence) primary.old.site
+        → IfOk result (λ now. FeedsAll D.disk (L.links links.old) (L.links links.new) called.now from (is_whole_so_far now) hole slots.old.items slots.new.items text.old text.new) }
+    ensures cut_off { (from : Contents) → IsOpenSite D.disk true from (length from.sequence) primary.old.site → OnErr result (IsCutFeeding D.disk (L.links links.old).told called.now from slots.old.items slots.new.items) }
     ensures length { length slots.new.items ≡ length slots.old.items }
 {
     let mut met = met;

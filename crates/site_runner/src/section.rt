@@ -1,11 +1,15 @@
 // RUN.
-ghost use Rattle.std.specs.Prelude.{OnOk};
-ghost use Rattle.command_defs.specs.Commands.{UsesUp};
+ghost use Rattle.std.specs.Prelude.{◌≡◌, ◌++◌, ℕ, false, length, insert, Some, IfOk, OnOk, OnErr};
+ghost use Rattle.std.specs.List.{AllByRecursion};
+ghost use Rattle.command_defs.specs.Commands.{IsFormed, IsWhole, Run};
 ghost use Rattle.repl_script.specs.Places.{at_all};
-ghost use Rattle.world_defs.specs.Meaning.{row_at};
-ghost use Rattle.world_defs.specs.rows.Run.{run};
-ghost use Rattle.site_runner.specs.Executes.{Leaves};
-ghost use Rattle.site_runner.specs.Sites.{IsReadyOpen, IsReadySlot};
+ghost use Rattle.site_store.specs.Owning.{disk_of, memory_of};
+ghost use Rattle.site_store.specs.Site.{count_of};
+ghost use Rattle.site_runner.specs.Ending.{is_done_at};
+ghost use Rattle.site_runner.specs.Executes.{Executes, IsCutOff};
+ghost use Rattle.site_runner.specs.Feeding.{HaveSessions, Meets};
+ghost use Rattle.site_runner.specs.Sections.{met_line, met_site};
+ghost use Rattle.site_runner.specs.Sites.{disk_in, site_in, IsReadyOpen, IsReadySlot, AreReady};
 
 use super::answering::refuse;
 use super::cause::Cause;
@@ -31,7 +35,9 @@ fn write_met(
     met: Met,
     length: u64,
     fault: u64,
-) -> Result<(), NoMemory> {
+) -> Result<(), NoMemory>
+    ensures { OnOk result (text.new ≡ text.old ++ met_line name.now met length fault) }
+{
     match met {
         Met::Nothing => write_numbered(text, name, b"AT ", length),
         Met::Damage { file, offset } => write_not_a_file(text, name, file, offset),
@@ -45,7 +51,13 @@ fn left_behind<D: Disk>(
     name: Bytes,
     met: Met,
     text: &mut Bytes,
-) -> (Slot<D>, Result<Ended, NoMemory>) {
+) -> (Slot<D>, Result<Ended, NoMemory>)
+    requires { Meets D.disk met reign.value }
+    ensures ready { OnOk result.1 (IsReadySlot D.disk result.0) }
+    ensures disk { disk_in result.0 ≡ disk_of reign.value.site }
+    ensures site { IfOk result.1 (λ ended. site_in result.0 ≡ Some (met_site name reign.value met (D.disk (disk_of reign.value.site)).faults)) }
+    ensures written { IfOk result.1 (λ ended. (is_done_at ended ≡ false) × (text.new ≡ text.old ++ met_line name met (count_of (memory_of reign.value.site)) (D.disk (disk_of reign.value.site)).faults)) }
+{
     let length = reign.site.sequence_length();
     if let Met::Fault { .. } = met {
         let disk = Box::into_inner(reign).site.abandon();
@@ -71,7 +83,21 @@ fn run_open<D: Disk, L: Linker>(
     slots: &mut Vec<Slot<D>>,
     links: &mut L,
     text: &mut Bytes,
-) -> (Slot<D>, Result<Ended, NoMemory>) {
+) -> (Slot<D>, Result<Ended, NoMemory>)
+    requires formed { IsFormed (Run name (at_all jobs) order.now) }
+    requires whole { IsWhole (Run name (at_all jobs) order.now) }
+    requires ready { IsReadyOpen D.disk reign.value }
+    requires others { AllByRecursion (IsReadySlot D.disk) slots.old.items }
+    ensures ready { OnOk result.1 (IsReadySlot D.disk result.0) }
+    ensures others { OnOk result.1 (AllByRecursion (IsReadySlot D.disk) slots.new.items) }
+    ensures sessions { (hole : ℕ) → HaveSessions hole slots.old.items → OnOk result.1 (HaveSessions hole slots.new.items) }
+    // whatever world the slots were with the primary at its place, the section with some answer leads to one that they are
+    ensures done { (hole : ℕ) → HaveSessions hole slots.old.items
+        → IfOk result.1 (λ ended. Executes D.disk (Run name (at_all jobs) order.now) (L.links links.old) (L.links links.new) (insert slots.old.items hole (Slot.Open reign name)) (insert slots.new.items hole result.0) text.old text.new) }
+    ensures cut_off { (hole : ℕ) → HaveSessions hole slots.old.items
+        → OnErr result.1 (IsCutOff D.disk (Run name (at_all jobs) order.now) (L.links links.old) (insert slots.old.items hole (Slot.Open reign name)) (insert slots.new.items hole result.0)) }
+    ensures length { length slots.new.items ≡ length slots.old.items }
+{
     leftovers_hold();
     let open = reign.as_mut();
     let met = match open.run(alloc, &mut jobs, order, text) {

@@ -3,7 +3,7 @@ ghost use Rattle.std.specs.Prelude.{◌≡◌, ◌≢◌, ◌≤◌, ◌<◌, �
 ghost use Rattle.std.specs.Io.KnownBytes.{Consumes};
 ghost use Rattle.global_defs.specs.Counts.{Rose};
 ghost use Rattle.world_defs.specs.World.{World, IsFresh};
-ghost use Rattle.world_defs.specs.Ties.{AreDisks};
+ghost use Rattle.world_defs.specs.Ties.{AreDisks, AreLinked, AreLinks};
 ghost use Rattle.command_defs.specs.Lines.{lines_of};
 ghost use Rattle.command_defs.specs.Commands.{IsFormed, IsWhole};
 ghost use Rattle.command_defs.specs.Script.{IsScript, IsBadAt};
@@ -71,8 +71,8 @@ fn carry_out<K: Sink, D: Disk, L: Linker>(
     requires whole { IsWhole (command_value command) }
     requires ready { AreReady D.disk slots.old.items }
     ensures ready { OnOk result (AreReady D.disk slots.new.items) }
-    ensures done { OnOk result (CarriesOut D.disk (command_value command) slots.old.items slots.new.items (K.written out.old) (K.written out.new)) }
-    ensures broken { IfErr result (λ status. Breaks status D.disk (command_value command) slots.old.items slots.new.items (K.written out.old) (K.written out.new) (Rose (K.faults out.old) (K.faults out.new))) }
+    ensures done { OnOk result (CarriesOut D.disk (command_value command) (L.links links.old) (L.links links.new) slots.old.items slots.new.items (K.written out.old) (K.written out.new)) }
+    ensures broken { IfErr result (λ status. Breaks status D.disk (command_value command) (L.links links.old) (L.links links.new) slots.old.items slots.new.items (K.written out.old) (K.written out.new) (Rose (K.faults out.old) (K.faults out.new))) }
     ensures later { K.faults out.old ≤ K.faults out.new }
     ensures length { length slots.new.items ≡ length slots.old.items }
 {
@@ -115,8 +115,8 @@ fn take_line<K: Sink, D: Disk, L: Linker>(
     requires ready { AreReady D.disk slots.old.items }
     ensures ready { OnOk result (AreReady D.disk slots.new.items) }
     ensures count { OnOk result (reader.new.lines ≡ reader.old.lines + 1) }
-    ensures goes_on { OnOk result (GoesOn D.disk reader.old.position reader.new.position slots.old.items slots.new.items line.now (K.written out.old) (K.written out.new)) }
-    ensures halts { IfErr result (λ status. Halts status D.disk (reader.old.lines + 1) reader.old.position slots.old.items slots.new.items line.now (K.written out.old) (K.written out.new) (Rose (K.faults out.old) (K.faults out.new))) }
+    ensures goes_on { OnOk result (GoesOn D.disk (L.links links.old) (L.links links.new) reader.old.position reader.new.position slots.old.items slots.new.items line.now (K.written out.old) (K.written out.new)) }
+    ensures halts { IfErr result (λ status. Halts status D.disk (L.links links.old) (L.links links.new) (reader.old.lines + 1) reader.old.position slots.old.items slots.new.items line.now (K.written out.old) (K.written out.new) (Rose (K.faults out.old) (K.faults out.new))) }
     ensures later { K.faults out.old ≤ K.faults out.new }
     ensures length { length slots.new.items ≡ length slots.old.items }
 {
@@ -148,7 +148,7 @@ fn run_lines<S: Source, K: Sink, D: Disk, L: Linker>(
 ) -> Status
     requires ready { AreReady D.disk slots.old.items }
     requires room { ahead.old.room + length ahead.old.bytes ≡ 409700001 }
-    ensures meaning { Meaning D.disk slots.old.items slots.new.items result (left_behind ahead.old (S.left script.old)) (left_behind ahead.new (S.left script.new)) (K.written out.old) (K.written out.new) }
+    ensures meaning { Meaning D.disk (L.links links.old) (L.links links.new) slots.old.items slots.new.items result (left_behind ahead.old (S.left script.old)) (left_behind ahead.new (S.left script.new)) (K.written out.old) (K.written out.new) }
     ensures length { length slots.new.items ≡ length slots.old.items }
     ensures script { result ≡ Status.Ok → IfSome (left_behind ahead.old (S.left script.old)) (λ input. IsScript (lines_of input)) }
     ensures bad_line { (n c : ℕ) → result ≡ Status.BadLine n c → IfSome (left_behind ahead.old (S.left script.old)) (λ input. IsBadAt (lines_of input) n c) }
@@ -204,8 +204,8 @@ fn run_script<S: Source, K: Sink, D: Disk, L: Linker>(
     out: &mut K,
 ) -> Status
     requires { AreReady D.disk slots.old.items }
-    ensures meaning { (w : World) → Tied D.disk slots.old.items w
-        → (after : World) × Matched D.disk slots.new.items after × RanTo result (S.left script.old) (S.left script.new) w after (K.written out.old) (K.written out.new) }
+    ensures meaning { (w : World) → Tied D.disk (L.links links.old) slots.old.items w
+        → (after : World) × Matched D.disk slots.new.items after × (result ≢ Status.NoMemory → AreLinked (L.links links.new) after.links) × RanTo result (S.left script.old) (S.left script.new) w after (K.written out.old) (K.written out.new) }
     ensures length { length slots.new.items ≡ length slots.old.items }
     ensures script { result ≡ Status.Ok → IfSome (S.left script.old) (λ input. IsScript (lines_of input)) }
     ensures bad_line { (n c : ℕ) → result ≡ Status.BadLine n c → IfSome (S.left script.old) (λ input. IsBadAt (lines_of input) n c) }
@@ -237,9 +237,12 @@ pub fn run<S: Source, K: Sink, D: Disk, L: Linker>(
     links: &mut L,
 ) -> Status
     ensures bad_words { (result ≡ Status.BadWords) ↔ (words_reading (map string_bytes words.now) ≡ None) }
-    ensures nothing { result ≡ Status.BadWords → (script.new ≡ script.old) × (out.new ≡ out.old) × (disks.new ≡ disks.old) }
-    ensures meaning { (w : World) → AreDisks D.disk disks.old.items w → IsFresh w
-        → (after : World) × AreDisks D.disk disks.new.items after × RanTo result (S.left script.old) (S.left script.new) w after (K.written out.old) (K.written out.new) × StaysFit result w after }
+    ensures nothing { result ≡ Status.BadWords → (script.new ≡ script.old) × (out.new ≡ out.old) × (disks.new ≡ disks.old) × (links.new ≡ links.old) }
+    // of the links nothing is told where the run ended for want of memory, which may cut a command off
+    ensures meaning { (w : World) → AreDisks D.disk disks.old.items w → AreLinks L.links links.old w → IsFresh w
+        → (after : World) × AreDisks D.disk disks.new.items after × (result ≢ Status.NoMemory → AreLinks L.links links.new after)
+            × ((r : RanTo result (S.left script.old) (S.left script.new) w after (K.written out.old) (K.written out.new)) × StaysFit result w r.went.told after) }
+    ensures links { ((L.links links.new).told ≡ (L.links links.old).told) × ((L.links links.new).simulated ≡ (L.links links.old).simulated) }
     ensures disks { length disks.new.items ≡ length disks.old.items }
     ensures script { result ≡ Status.Ok → IfSome (S.left script.old) (λ input. IsScript (lines_of input)) }
     ensures bad_line { (n c : ℕ) → result ≡ Status.BadLine n c → IfSome (S.left script.old) (λ input. IsBadAt (lines_of input) n c) }
