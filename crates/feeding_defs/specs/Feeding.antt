@@ -1,5 +1,5 @@
 -- What a site takes of another one's entries (GT.M: the Update Process of a Receiver Server).
-use Rattle.std.specs.Prelude.{◌≡◌, ◌⊎◌, ℕ, ◌+◌, ◌≤◌, ◌<◌, List, ◌++◌, length, map, take, drop}
+use Rattle.std.specs.Prelude.{◌≡◌, ◌⊎◌, ℕ, ◌+◌, ◌≤◌, ◌<◌, Bool, IsTrue, List, ◌++◌, length, map, take, drop}
 use Rattle.global_defs.specs.Entry.{Sequence, Reign}
 use Rattle.global_defs.specs.Prefix.{History}
 use Rattle.global_defs.specs.Rising.{StartsRise}
@@ -7,11 +7,24 @@ use Rattle.journal_defs.specs.Instance as records
 use Rattle.journal_defs.specs.Surviving.{reigns}
 use Rattle.site_defs.specs.Contents.{Contents, Standing, bare}
 use Rattle.site_defs.specs.Behind.{MayStand}
+use Rattle.lineage_defs.specs.Histories as histories
 use Rattle.lineage_defs.specs.Histories.{begun_within}
 
 -- a site's history, as its files have it
 abbrev pub history_of : Contents → History
 history_of c = record { length = length c.sequence; reigns = reigns c.instance }
+
+-- as many reigns as a HELLO may tell have begun by its length, and no more
+abbrev pub TellsFew : Contents → Type 0
+TellsFew c = histories.TellsFew (history_of c)
+
+-- the one's history goes on from the whole of the other one's
+abbrev pub IsMatched : (primary c : Contents) → Type 0
+IsMatched primary c = histories.IsMatched (history_of primary) (history_of c)
+
+-- they share fewer entries than the other one has, and the next one has that number
+abbrev pub IsParted : ℕ → (primary c : Contents) → Type 0
+IsParted n primary c = histories.IsParted n (history_of primary) (history_of c)
 
 -- with the records of the reigns that begin past its entries, up to number n
 abbrev pub with_begun : List Reign → ℕ → Contents → Contents
@@ -41,6 +54,26 @@ MayTake rs all c o = (n : ℕ) × IsFedTo all n c × ((o ≡ fed rs all n c) ⊎
 abbrev pub MayTakeLeft : List Reign → Sequence → Standing → Standing → Type 0
 MayTakeLeft rs all s o = (n : ℕ) × IsFedTo all n s.contents
     × ((o ≡ bare (fed rs all n s.contents)) ⊎ ((n < length all) × MayStand (with_begun rs (n + 1) s.contents) (joined all n s.contents.sequence) (joined all (n + 1) s.contents.sequence) o))
+
+-- What came over links: the primary's entries with its reigns, where they tell their bytes.
+pub record Came (told : Bool) (from : Contents) : Type 0 where
+  pub reigns_then : List Reign
+  pub entries : Sequence
+  pub own : IsTrue told → (reigns_then ≡ reigns from.instance) × (entries ≡ from.sequence)
+
+-- The histories match, and it was taken up to number n.
+pub record HasTaken (told : Bool) (from : Contents) (n : ℕ) (c o : Contents) : Type 0 where
+  pub matched : IsTrue told → IsMatched from c
+  pub came : Came told from
+  pub count : IsFedTo came.entries n c
+  pub is : o ≡ fed came.reigns_then came.entries n c
+
+-- what taking may leave, whatever came
+abbrev pub MayTakeOf : Bool → Contents → Contents → Contents → Type 0
+MayTakeOf told from c o = (o ≡ c) ⊎ ((came : Came told from) × MayTake came.reigns_then came.entries c o × (IsTrue told → IsMatched from c))
+
+abbrev pub MayTakeLeftOf : Bool → Contents → Standing → Standing → Type 0
+MayTakeLeftOf told from s o = (o ≡ s) ⊎ ((came : Came told from) × MayTakeLeft came.reigns_then came.entries s o × (IsTrue told → IsMatched from s.contents))
 
 -- Taking goes on: entries up to a number, and then up to a later one, are those up to the later one.
 abbrev pub TakesOn : Type 0

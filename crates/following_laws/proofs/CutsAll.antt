@@ -31,7 +31,7 @@ use Rattle.world_defs.specs.rows.Map.{map_pattern}
 use Rattle.world_defs.specs.rows.Print.{print}
 use Rattle.world_defs.specs.rows.Recover.{recover}
 use Rattle.world_defs.specs.rows.Rollback.{rollback, setting_back, stay_of}
-use Rattle.world_defs.specs.rows.Feed.{MayTakeOf, MayTakeLeftOf}
+use Rattle.feeding_defs.specs.Feeding.{MayTakeOf, MayTakeLeftOf}
 use Rattle.world_defs.specs.rows.Run.{is_primary_on, is_fed, turn_on, run_to, RunMayLeaveOn, FedLeft, feeding, run}
 use Rattle.world_defs.specs.rows.SetJournal.{set_journal}
 use Rattle.world_defs.specs.rows.Show.{show}

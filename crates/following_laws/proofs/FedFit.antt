@@ -12,6 +12,7 @@ use Rattle.journal_defs.specs.Surviving.{reigns}
 use Rattle.journal_defs.specs.Fit.{HasFewReigns}
 use Rattle.command_defs.specs.Commands.{Name, Command, Create, Attach, SetJournal, Map, StartPrimary, StartSecondary, Run, Stop, Epoch, Resync, Fetchresync, Switch, Cut, RecoverBackward, RecoverForward, Fuse, Crash, Extract, Zwrite, Show, Print, IsFormed}
 use Rattle.command_defs.specs.Updaters.{is_updater}
+use Rattle.feeding_defs.specs.Feeding.{MayTakeOf, MayTakeLeftOf}
 use Rattle.site_defs.specs.Contents.{Contents, Standing}
 use Rattle.site_defs.specs.Fronts.{turn_of, with_sequence}
 use Rattle.world_defs.specs.World.{State, Down, Primary, Following, Waiting, Failed, Site, Place, World, is_follower_on, name_on}
@@ -22,7 +23,7 @@ use Rattle.world_defs.specs.Fit.{IsWithinCycles, IsFitContents, IsNamedSo, IsFit
 use Rattle.world_defs.specs.Meaning.{row_at}
 use Rattle.world_defs.specs.Row.{Here}
 use Rattle.world_defs.specs.Together.{IsHad, MayHave, IsNamed}
-use Rattle.world_defs.specs.rows.Feed.{MayTakeOf, MayTakeLeftOf, IsFed, is_whole}
+use Rattle.world_defs.specs.rows.Feed.{IsFed, is_whole}
 use Rattle.world_defs.specs.rows.Run as rows
 use Rattle.world_defs.specs.rows.Run.{turn_on, run_to, is_primary, is_primary_on, is_fed, FeedsAs, FedLeft, feeding, run}
 use Rattle.world_laws.specs.Again.{HasFitOutcomes}

@@ -5,7 +5,7 @@ use Rattle.global_defs.specs.Prefix.{IsPrefix, IsCommon}
 use Rattle.command_defs.specs.Commands.{Name, StartSecondary, Fetchresync}
 use Rattle.lineage_defs.specs.Histories.{IsCommonOf}
 use Rattle.site_defs.specs.Contents.{Contents}
-use Rattle.feeding_defs.specs.Feeding.{history_of}
+use Rattle.feeding_defs.specs.Feeding.{history_of, IsMatched, IsParted}
 use Rattle.site_defs.specs.Rolling.{lost_text, rolled}
 use Rattle.world_defs.specs.World.{State, Down, Primary, Following, Waiting, Failed, Site, Place, World, name_on}
 use Rattle.world_defs.specs.Answers.{Cause, NoSite, Stopped, Exists, NoDisk, NotEmpty, Empty, Running, NotRunning, NotPrimary, NotFollowing, NotSimulated, Started, NoRegion, TwiceMapped, NoFile, GenLimit, ReignLimit, NoBefore, NeedForward, LinkCut, RollbackFirst, Refusal, Done, Refused}
@@ -14,7 +14,7 @@ use Rattle.world_defs.specs.Meaning.{row_at}
 use Rattle.world_defs.specs.Step.{Step}
 use Rattle.world_defs.specs.Together.{MayHave, IsTogether}
 use Rattle.world_defs.specs.rows.Start.{forward_cause}
-use Rattle.world_defs.specs.rows.Follow.{IsMatched, IsParted, Follows, IsRefusedOver, FollowMayRefuse, unopened, unfollowed, follow, asking}
+use Rattle.world_defs.specs.rows.Follow.{Follows, IsRefusedOver, FollowMayRefuse, unopened, unfollowed, follow, asking}
 use Rattle.world_defs.specs.rows.Rollback.{stay_of}
 use Rattle.world_defs.specs.rows.Fetch.{Fetches, fetch, fetching}
 use Rattle.world_laws.specs.Entries.{IsPlaceOf}

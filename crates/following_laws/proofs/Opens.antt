@@ -9,6 +9,7 @@ use Rattle.journal_defs.specs.Instance.{generation}
 use Rattle.journal_defs.specs.Surviving.{reigns}
 use Rattle.journal_laws.proofs.Runs.{reigns-cut}
 use Rattle.command_defs.specs.Commands.{Name}
+use Rattle.feeding_defs.specs.Feeding.{IsMatched}
 use Rattle.site_defs.specs.Contents.{Contents}
 use Rattle.site_defs.specs.Forward.{MayRecoverAs, recovered_as}
 use Rattle.site_defs.specs.Opening.{opened}
@@ -21,7 +22,7 @@ use Rattle.world_defs.specs.Row.{or_else, refused_with, in_state, running, not_p
 use Rattle.world_defs.specs.Meaning.{row_at}
 use Rattle.world_defs.specs.Step.{One}
 use Rattle.world_defs.specs.Together.{IsHad, MayHave, StandsAt, HasNoLater, IsTogether}
-use Rattle.world_defs.specs.rows.Follow.{Follows, IsMatched, IsClosed, FollowMayRefuse, unopened, unfollowed, asked_to_follow, follow, asking}
+use Rattle.world_defs.specs.rows.Follow.{Follows, IsClosed, FollowMayRefuse, unopened, unfollowed, asked_to_follow, follow, asking}
 use Rattle.world_laws.proofs.Alongs.{same_place}
 use Rattle.run_laws.proofs.Owns.{kept_alike, alike_at, first_alike}
 use Rattle.following_laws.proofs.Moves.{MovesTo, together}

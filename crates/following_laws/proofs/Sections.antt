@@ -13,7 +13,7 @@ use Rattle.lineage_defs.specs.Histories.{IsHistory}
 use Rattle.command_defs.specs.Commands.{Name}
 use Rattle.site_defs.specs.Contents.{Contents, Standing, same_name}
 use Rattle.lineage_defs.specs.Histories.{begun_within}
-use Rattle.feeding_defs.specs.Feeding.{with_begun, joined, fed}
+use Rattle.feeding_defs.specs.Feeding.{IsMatched, MayTakeOf, with_begun, joined, fed}
 use Rattle.site_defs.specs.Fronts.{IsFrontOf, with_sequence}
 use Rattle.site_defs.specs.Lists.{Among, first_where}
 use Rattle.world_defs.specs.World.{State, Down, Primary, Following, Waiting, Failed, Site, Place, World, Kept, is_follower, is_follower_on, is_site_named, place_of}
@@ -22,8 +22,7 @@ use Rattle.world_defs.specs.Sections.{End}
 use Rattle.world_defs.specs.Changes.{in_new_state, Stays, Becomes, Fails}
 use Rattle.world_defs.specs.Fit.{IsFitSite}
 use Rattle.world_defs.specs.Together.{IsHad, MayHave, StandsAt, IsReigning, HasNoLater, IsTogether}
-use Rattle.world_defs.specs.rows.Follow.{IsMatched}
-use Rattle.world_defs.specs.rows.Feed.{TakesSome, Takes, MayTakeOf, EndsAs, IsFed, followed}
+use Rattle.world_defs.specs.rows.Feed.{TakesSome, Takes, EndsAs, IsFed, followed}
 use Rattle.world_laws.proofs.Alongs.{same_place}
 use Rattle.world_laws.proofs.EntriesStay.{only_one}
 use Rattle.run_laws.proofs.Owns.{NamedAlike, first_alike}

@@ -5,10 +5,9 @@ use Rattle.global_defs.specs.Prefix.{IsPrefix, IsCommon}
 use Rattle.journal_defs.specs.Surviving.{reigns}
 use Rattle.lineage_defs.specs.Histories.{IsCommonOf}
 use Rattle.site_defs.specs.Contents.{Contents}
-use Rattle.feeding_defs.specs.Feeding.{history_of}
+use Rattle.feeding_defs.specs.Feeding.{history_of, TellsFew, IsMatched}
 use Rattle.world_defs.specs.World.{World}
 use Rattle.world_defs.specs.Together.{MayHave, IsTogether}
-use Rattle.world_defs.specs.rows.Follow.{TellsFew, IsMatched}
 use Rattle.resync_core.proofs.SharedFronts.{of-sequences, of-histories, begins, shares}
 use Rattle.resync_core.proofs.Fronts as lists
 

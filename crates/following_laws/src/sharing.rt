@@ -5,12 +5,11 @@ ghost use Rattle.global_defs.specs.Prefix.{IsPrefix, IsCommon};
 ghost use Rattle.lineage_defs.specs.Histories.{IsCommonOf};
 ghost use Rattle.command_defs.specs.Commands.{Name, StartSecondary, Fetchresync};
 ghost use Rattle.site_defs.specs.Contents.{Contents};
-ghost use Rattle.feeding_defs.specs.Feeding.{history_of};
+ghost use Rattle.feeding_defs.specs.Feeding.{history_of, TellsFew, IsMatched};
 ghost use Rattle.world_defs.specs.World.{Place, World, place_of};
 ghost use Rattle.world_defs.specs.Answers.{Done, Refused, RollbackFirst};
 ghost use Rattle.world_defs.specs.Step.{Step};
 ghost use Rattle.world_defs.specs.Together.{MayHave, IsTogether};
-ghost use Rattle.world_defs.specs.rows.Follow.{TellsFew, IsMatched};
 ghost use Rattle.world_laws.specs.Entries.{IsPlaceOf};
 ghost use Rattle.following_laws.specs.Sharing.{IsOther, Parts, Leaves};
 

@@ -4,6 +4,7 @@ use Rattle.std.specs.List.{flat_map, enumerate_from}
 use Rattle.disk_defs.specs.Disk.{View}
 use Rattle.global_defs.specs.Beside.{Along}
 use Rattle.wire_defs.specs.Links.{Linking}
+use Rattle.feeding_defs.specs.Feeding.{MayTakeOf, MayTakeLeftOf}
 use Rattle.command_defs.specs.Commands.{Name}
 use Rattle.site_defs.specs.Contents.{Contents}
 use Rattle.world_defs.specs.World.{Place, is_follower_on, name_on}
@@ -12,7 +13,7 @@ use Rattle.world_defs.specs.Sections.{End}
 use Rattle.world_defs.specs.Connecting.{Feeds, FeedsEach}
 use Rattle.world_defs.specs.Changes.{LeftBy}
 use Rattle.world_defs.specs.Ties.{Matches}
-use Rattle.world_defs.specs.rows.Feed.{EndsAs, IsFed, MayTakeOf, MayTakeLeftOf, end_line_if}
+use Rattle.world_defs.specs.rows.Feed.{EndsAs, IsFed, end_line_if}
 use Rattle.site_store.specs.Owning.{disk_of, memory_of, HasStopped, IsOpenSite}
 use Rattle.site_store.specs.Site.{count_of}
 use Rattle.repl_section.specs.declared.reign.Reign as code

@@ -17,8 +17,8 @@ use Rattle.world_defs.specs.Sections.{Section}
 use Rattle.world_defs.specs.Changes.{in_new_state, Stays, Becomes, Fails, FailsUnchanged, ChangesUnknown}
 use Rattle.world_defs.specs.rows.Crash.{Crashes}
 use Rattle.world_defs.specs.rows.Rollback.{MayRollBackTo, RollsBack, stay, stay_of}
-use Rattle.feeding_defs.specs.Feeding.{joined}
-use Rattle.world_defs.specs.rows.Feed.{Takes, MayTakeOf}
+use Rattle.feeding_defs.specs.Feeding.{MayTakeOf, joined}
+use Rattle.world_defs.specs.rows.Feed.{Takes}
 use Rattle.world_defs.specs.rows.Run as rows
 use Rattle.global_defs.proofs.Lists.{get-append}
 use Rattle.std.proofs.Math.Seq.{take-length}

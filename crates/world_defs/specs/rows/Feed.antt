@@ -2,22 +2,13 @@
 use Rattle.std.specs.Prelude.{◌≡◌, ◌⊎◌, ℕ, Bool, true, false, IsTrue, List, [], ◌++◌, codes, length, Option, Some, None, ◌&&◌}
 use Rattle.std.specs.Fmt.{decimal}
 use Rattle.std.specs.List.{flat_map, enumerate_from}
-use Rattle.global_defs.specs.Entry.{Sequence, Reign}
-use Rattle.journal_defs.specs.Surviving.{reigns}
 use Rattle.command_defs.specs.Commands.{Name}
-use Rattle.site_defs.specs.Contents.{Contents, Standing}
-use Rattle.feeding_defs.specs.Feeding.{IsFedTo, MayTake, MayTakeLeft, fed}
+use Rattle.site_defs.specs.Contents.{Contents}
+use Rattle.feeding_defs.specs.Feeding.{Came, IsFedTo, IsMatched, IsParted, MayTakeOf, MayTakeLeftOf, fed}
 use Rattle.world_defs.specs.World.{Following, Failed, Site, Place, Kept, StandAfter, name_on}
 use Rattle.world_defs.specs.Sections.{End, At, LinkCut, RollbackFirst, BadFrame, DiskFault, Section}
 use Rattle.world_defs.specs.Answers.{line, fault_line, bad_frame_line}
 use Rattle.world_defs.specs.Changes.{in_new_state, Stays, Fails}
-use Rattle.world_defs.specs.rows.Follow.{IsMatched, IsParted}
-
--- What came over links: the primary's entries with its reigns, where they tell their bytes.
-pub record Came (told : Bool) (from : Contents) : Type 0 where
-  pub reigns_then : List Reign
-  pub entries : Sequence
-  pub own : IsTrue told → (reigns_then ≡ reigns from.instance) × (entries ≡ from.sequence)
 
 -- The histories match, and it is taken up to number n; the site is in that state, with nothing behind.
 pub record TakesSome (told : Bool) (from : Contents) (n : ℕ) (site_then : Option Site) (old new : Place) : Type 0 where
@@ -38,13 +29,6 @@ followed name p = in_new_state (Following name) p.site
 pub record HearsAll (told : Bool) (name : Name) (from : Contents) (n : ℕ) (old new : Place) : Type 0 where
   pub all : IsTrue told → n ≡ length from.sequence
   pub takes : TakesSome told from n (followed name old) old new
-
--- what taking may leave, whatever came
-abbrev pub MayTakeOf : Bool → Contents → Contents → Contents → Type 0
-MayTakeOf told from c o = (o ≡ c) ⊎ ((came : Came told from) × MayTake came.reigns_then came.entries c o × (IsTrue told → IsMatched from c))
-
-abbrev pub MayTakeLeftOf : Bool → Contents → Standing → Standing → Type 0
-MayTakeLeftOf told from s o = (o ≡ s) ⊎ ((came : Came told from) × MayTakeLeft came.reigns_then came.entries s o × (IsTrue told → IsMatched from s.contents))
 
 -- How a follower's session ended; where the primary failed in the section, or a read of its files did, a session may end before the last entry.
 abbrev pub EndsAs : (told : Bool) → Name → (from : Contents) → (whole : Bool) → End → Place → Place → Type 0

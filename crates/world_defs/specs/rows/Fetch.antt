@@ -6,7 +6,7 @@ use Rattle.journal_defs.specs.Instance.{generation}
 use Rattle.lineage_defs.specs.Histories.{IsCommonOf}
 use Rattle.command_defs.specs.Commands.{Name}
 use Rattle.site_defs.specs.Contents.{Contents}
-use Rattle.feeding_defs.specs.Feeding.{history_of}
+use Rattle.feeding_defs.specs.Feeding.{history_of, TellsFew}
 use Rattle.site_defs.specs.OutsideBlocks.{IsOutsideRollback}
 use Rattle.world_defs.specs.World.{Place, Failed, IfKnown, IfShown, Kept, StandAfter}
 use Rattle.world_defs.specs.Answers.{Cause, GenLimit, NoBefore, LinkCut, Refusal, Answer, line}
@@ -18,7 +18,7 @@ use Rattle.world_defs.specs.Row.{Row, writing, refused_with, where_known}
 use Rattle.world_defs.specs.Meaning.{Others}
 use Rattle.world_defs.specs.rows.Start.{generation_limit}
 use Rattle.world_defs.specs.rows.Rollback.{stay_of, MayRollBackTo, MayRollBackToLeft, RollsBack, RolledBackBy, RollbackRefusedBy, no_before, setting_back}
-use Rattle.world_defs.specs.rows.Follow.{unfollowed, TellsFew, TellsTooMany}
+use Rattle.world_defs.specs.rows.Follow.{unfollowed, TellsTooMany}
 
 -- where links tell their bytes, the site with these contents shares so many entries with the primary
 abbrev pub IsTarget : Bool → Contents → ℕ → Contents → Type 0

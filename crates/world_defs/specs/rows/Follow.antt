@@ -3,10 +3,9 @@ use Rattle.std.specs.Prelude.{◌≡◌, ◌⊎◌, ◌<◌, ◌≤◌, ◌+◌,
 use Rattle.std.specs.Fmt.{decimal}
 use Rattle.disk_defs.specs.Disk.{Files}
 use Rattle.journal_defs.specs.Instance.{generation, site_name}
-use Rattle.lineage_defs.specs.Histories as histories
 use Rattle.command_defs.specs.Commands.{Name}
 use Rattle.site_defs.specs.Contents.{Contents}
-use Rattle.feeding_defs.specs.Feeding.{history_of}
+use Rattle.feeding_defs.specs.Feeding.{TellsFew, IsMatched, IsParted}
 use Rattle.site_defs.specs.Forward.{recovered_as, MayRecoverAs, MayRecoverAsLeft}
 use Rattle.site_defs.specs.Limits.{LAST_GENERATION}
 use Rattle.site_defs.specs.Opening.{opened}
@@ -19,18 +18,6 @@ use Rattle.world_defs.specs.Without.{NoneIsWithout, IsWithoutNeed, MayNeedForwar
 use Rattle.world_defs.specs.Row.{Row, writing, first, refused_with, first_refusal, in_state, stopped, running, not_primary, where_known}
 use Rattle.world_defs.specs.Meaning.{Others, apart}
 use Rattle.world_defs.specs.rows.Start.{generation_limit, need_forward, LimitedBy, IsUnopened}
-
--- as many reigns as a HELLO may tell have begun by its length, and no more
-abbrev pub TellsFew : Contents → Type 0
-TellsFew c = histories.TellsFew (history_of c)
-
--- the one's history goes on from the whole of the other one's
-abbrev pub IsMatched : Contents → Contents → Type 0
-IsMatched primary c = histories.IsMatched (history_of primary) (history_of c)
-
--- they share fewer entries than the other one has, and the next one has that number
-abbrev pub IsParted : ℕ → Contents → Contents → Type 0
-IsParted n primary c = histories.IsParted n (history_of primary) (history_of c)
 
 -- more reigns than a HELLO may tell
 abbrev pub TellsTooMany : (offset : ℕ) → Contents → Type 0

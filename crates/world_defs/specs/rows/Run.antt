@@ -8,6 +8,7 @@ use Rattle.global_defs.specs.Serial.{Turn, begun}
 use Rattle.command_defs.specs.Commands.{Name}
 use Rattle.site_defs.specs.Contents.{Contents, Standing}
 use Rattle.site_defs.specs.Behind.{MayStand}
+use Rattle.feeding_defs.specs.Feeding.{MayTakeOf, MayTakeLeftOf}
 use Rattle.site_defs.specs.Lists.{Among}
 use Rattle.site_defs.specs.Fronts.{IsFrontOf, turn_of, with_sequence}
 use Rattle.site_defs.specs.Texts.{reply_line}
@@ -17,7 +18,7 @@ use Rattle.world_defs.specs.Answers.{Answer, Done, Refused, DiskFault, NotAFile,
 use Rattle.world_defs.specs.Changes.{in_new_state, Becomes, Fails, LeftBy, LeavesOld}
 use Rattle.world_defs.specs.Meaning.{Others}
 use Rattle.world_defs.specs.Connecting.{FeedsEach}
-use Rattle.world_defs.specs.rows.Feed.{IsFed, MayTakeOf, MayTakeLeftOf, follower_lines, is_whole}
+use Rattle.world_defs.specs.rows.Feed.{IsFed, follower_lines, is_whole}
 use Rattle.world_defs.specs.Row.{Row, quiet, refused_with, in_state, why_not_primary}
 
 -- without a fault the jobs are decided one after another, all of them
