@@ -263,27 +263,6 @@ impl<P: Drop> Machines<P> {
         })
     }
 
-    /// What three threads left of a connection's machines, in one thread again.
-    pub fn of(
-        source: Source,
-        receiver: Receiver,
-        into: PoolIn,
-        out: PoolOut,
-        failure: Option<P>,
-    ) -> Machines<P>
-        ensures machines { (result.source ≡ source) × (result.receiver ≡ receiver) × (result.into ≡ into) × (result.out ≡ out) }
-        ensures going { (result.failure ≡ failure) × (result.cut ≡ false) }
-    {
-        Machines {
-            source,
-            receiver,
-            into,
-            out,
-            failure,
-            cut: false,
-        }
-    }
-
     /// Why the primary couldn't read an entry, where it couldn't.
     pub fn into_failure(self) -> Option<P>
         ensures { result ≡ self.failure }

@@ -1,7 +1,7 @@
 // One connection of a session.
 ghost use Rattle.std.specs.Prelude.{◌≡◌, ◌⊎◌, ◌+◌, ◌<◌, ◌≤◌, ℕ, List, length, Some, IsTrue, IfOk, OnOk};
 ghost use Rattle.std.specs.List.{AllByRecursion};
-ghost use Rattle.global_defs.specs.declared.limits.TheConstants.{NUMBERS_END, MOST_REIGNS};
+ghost use Rattle.global_defs.specs.declared.limits.TheConstants.{NUMBERS_END};
 ghost use Rattle.global_defs.specs.Entry.{Sequence};
 ghost use Rattle.global_defs.specs.Fields.{IsReign, IsSiteName};
 ghost use Rattle.global_defs.specs.Prefix.{IsPrefix};

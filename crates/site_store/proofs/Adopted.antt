@@ -41,7 +41,7 @@ use Rattle.entry_index.specs.Found.{entry_count}
 use Rattle.entry_index.specs.Among.{IsIndexOf}
 use Rattle.site_store.specs.declared.memory.Memory.{Memory}
 use Rattle.site_store.specs.Site.{Remembers, IsReady, AreWaiting, Keeps, IsOpen, AreOnBlocks, count_of}
-use Rattle.site_store.specs.Following.{with_adopted}
+use Rattle.site_store.specs.Following.{IsReignToCome, with_adopted}
 use Rattle.site_store.proofs.OnBlocks.{on_same, on_chosen}
 use Rattle.site_store.proofs.HeldRegions.{no_instance_file, synced_stays}
 use Rattle.site_store.proofs.Standing.{reads_so, told_of, still}
@@ -259,21 +259,22 @@ pub has_record : (v : View) (s : Memory) → IsReady v s → 0 < length s.instan
 has_record v s ready = some_record s.instance.records (subst (λ (n : ℕ). 1 ≤ n) ready.each_place ready.some_place)
 
 -- all reigns begin before this one
-pub reigns_before : (s : Memory) (x : Reign) → AllByRecursion (λ (q : Reign). q.start ≤ count_of s) (reigns s.instance.records) → x.start ≡ count_of s + 1 → AllByRecursion (λ (q : Reign). q.start < x.start) (reigns s.instance.records)
-reigns_before s x all start = all_past (count_of s) x.start (reigns s.instance.records) all (omega (arith, start))
+before_in : (c : Contents) (h : ℕ) (s : Memory) (x : Reign) → Remembers c h s → IsReignToCome s x → AllByRecursion (λ (q : Reign). q.start < x.start) (reigns c.instance)
+before_in c h s x m come =
+    let start = come.start in
+    subst (λ (l : List InstanceRecord). AllByRecursion (λ (q : Reign). q.start < x.start) (reigns l)) m.instance (all_past (count_of s) x.start (reigns s.instance.records) come.none_past (omega (arith, start)))
 
-before_in : (c : Contents) (h : ℕ) (s : Memory) (x : Reign) → Remembers c h s → AllByRecursion (λ (q : Reign). q.start ≤ count_of s) (reigns s.instance.records) → x.start ≡ count_of s + 1
-    → AllByRecursion (λ (q : Reign). q.start < x.start) (reigns c.instance)
-before_in c h s x m all start = subst (λ (l : List InstanceRecord). AllByRecursion (λ (q : Reign). q.start < x.start) (reigns l)) m.instance (reigns_before s x all start)
+behind_all : (c : Contents) (h : ℕ) (s : Memory) (x : Reign) → Remembers c h s → IsReignToCome s x → length c.sequence < x.start
+behind_all c h s x m come = let count = remembered_length c h s m in let start = come.start in omega (arith, count, start)
 
-behind_all : (c : Contents) (h : ℕ) (s : Memory) (x : Reign) → Remembers c h s → x.start ≡ count_of s + 1 → length c.sequence < x.start
-behind_all c h s x m start = let count = remembered_length c h s m in omega (arith, count, start)
+-- Putting the reign on the disk touches no journal.
+pub journals_adopted : (v w : View) (s : Memory) → IsReady v s → OthersStay (Only INSTANCE) v w → (hard waiting : ℕ → List JournalRecord) → KeepsJournals v hard waiting s.journals.journals.items → KeepsJournals w hard waiting s.journals.journals.items
+journals_adopted v w s ready stays hard waiting keeps = frames.journals_keep v w (Only INSTANCE) s.journals.journals.items stays (journals_away v s ready) hard waiting keeps
 
 -- what putting the reign on the disk has done
 pub record Adopts (v w : View) (old new : Memory) (x : Reign) : Type 0 where
   pub ready : IsReady v old
-  pub past : AllByRecursion (λ (q : Reign). q.start ≤ count_of old) (reigns old.instance.records)
-  pub start : x.start ≡ count_of old + 1
+  pub to_come : IsReignToCome old x
   pub stays : OthersStay (Only INSTANCE) v w
   pub state : (rs : List InstanceRecord) → instances.HasRecords v old.instance rs → instances.HasRecords w new.instance (rs ++ Reigned x ∷ [])
   pub records : new.instance.records ≡ old.instance.records ++ Reigned x ∷ []
@@ -291,29 +292,30 @@ open_adopted v w told c h old new x lawful b entries changed hardened journals i
       };
       kept = λ t.
           let k = is.kept t in
-          keeps_adopted v w c h old new k x (behind_all c h old x m b.start) (before_in c h old x m b.past b.start) lawful b.stays (journals_away v old b.ready)
+          keeps_adopted v w c h old new k x (behind_all c h old x m b.to_come) (before_in c h old x m b.to_come) lawful b.stays (journals_away v old b.ready)
           (subst (λ (l : List InstanceRecord). 0 < length l) m.instance (has_record v old b.ready)) (b.state c.instance k.instance_file) journals entries changed;
     }
 
 -- at each moment of it
-pub left_adopted : (v w : View) (c : Contents) (h : ℕ) (old : Memory) (x : Reign) → AllByRecursion (λ (q : Reign). q.start ≤ count_of old) (reigns old.instance.records) → x.start ≡ count_of old + 1
+pub left_adopted : (v w : View) (c : Contents) (h : ℕ) (old : Memory) (x : Reign) → IsReignToCome old x
     → ((rs : List InstanceRecord) → instances.HasRecords v old.instance rs → AtEachMoment v w (OnlyOn v INSTANCE (instances.StandsWith rs (Reigned x))))
     → IsOpen v true c h old → AtEachMoment v w (λ f. IsSiteWith f (bare (front c h)) ⊎ IsSiteWith f (bare (with_adopted x (front c h))))
-left_adopted v w c h old x past start run is =
+left_adopted v w c h old x come run is =
     let k = is.kept refl in
-    adopting v c h old k x (behind_all c h old x is.remembered start) (before_in c h old x is.remembered past start) w (run c.instance k.instance_file)
+    adopting v c h old k x (behind_all c h old x is.remembered come) (before_in c h old x is.remembered come) w (run c.instance k.instance_file)
 
-pub moments_adopted : (v w : View) (c : Contents) (h : ℕ) (old : Memory) (x : Reign) → AllByRecursion (λ (q : Reign). q.start ≤ count_of old) (reigns old.instance.records) → x.start ≡ count_of old + 1
+pub moments_adopted : (v w : View) (c : Contents) (h : ℕ) (old : Memory) (x : Reign) → IsReignToCome old x
     → ((rs : List InstanceRecord) → instances.HasRecords v old.instance rs → AtEachMoment v w (OnlyOn v INSTANCE (instances.StandsWith rs (Reigned x))))
     → IsOpen v true c h old → AtEachMoment v w (λ f. IsSite f (front c h) ⊎ IsSite f (with_adopted x (front c h)))
-moments_adopted v w c h old x past start run is = weaker v w (λ f. IsSiteWith f (bare (front c h)) ⊎ IsSiteWith f (bare (with_adopted x (front c h)))) (λ f. IsSite f (front c h) ⊎ IsSite f (with_adopted x (front c h))) (λ f q. elim q [
+moments_adopted v w c h old x come run is = weaker v w (λ f. IsSiteWith f (bare (front c h)) ⊎ IsSiteWith f (bare (with_adopted x (front c h)))) (λ f. IsSite f (front c h) ⊎ IsSite f (with_adopted x (front c h))) (λ f q. elim q [
   | inl stays ↦ inl stays.site
   | inr more ↦ inr more.site
-]) (left_adopted v w c h old x past start run is)
+]) (left_adopted v w c h old x come run is)
 
 -- the starts of a site's reigns
-pub starts_adopted : (old new : Memory) (x : Reign) (was now : List ℕ) → AllByRecursion (λ (q : Reign). q.start ≤ count_of old) (reigns old.instance.records) → x.start ≡ count_of old + 1 → AreStarts (reigns old.instance.records) was → now ≡ was ++ x.start ∷ []
-    → new.instance.records ≡ old.instance.records ++ Reigned x ∷ [] → AreStarts (reigns new.instance.records) now
-starts_adopted old new x was now all start are starts records =
-    starts ∙ starts_more (reigns old.instance.records) x was (not_past (count_of old) x.start (reigns old.instance.records) all (omega (arith, start))) are
+pub starts_adopted : (old new : Memory) (x : Reign) (was now : List ℕ) → IsReignToCome old x → AreStarts (reigns old.instance.records) was → now ≡ was ++ x.start ∷ [] → new.instance.records ≡ old.instance.records ++ Reigned x ∷ []
+    → AreStarts (reigns new.instance.records) now
+starts_adopted old new x was now come are starts records =
+    let start = come.start in
+    starts ∙ starts_more (reigns old.instance.records) x was (not_past (count_of old) x.start (reigns old.instance.records) come.none_past (omega (arith, start))) are
     ∙ ap (λ (l : List Reign). minima (map (λ (q : Reign). q.start) l)) (sym (runs.reigns-more old.instance.records x) ∙ sym (ap reigns records))

@@ -120,7 +120,7 @@ all_past n m (r ∷ rs) all more = (omega (arith, all.0), all_past n m rs all.1 
 pub past_all : (s : Memory) (r : Reign) → AllByRecursion (λ (q : Reign). q.start ≤ count_of s) (reigns s.instance.records) → IsNextReign s r → AllByRecursion (λ (q : Reign). q.start < r.start) (reigns s.instance.records)
 past_all s r all is = all_past (count_of s) r.start (reigns s.instance.records) all (let e = is.start in omega (arith, e))
 
-stamp_last : (n : ℕ) (rs : List Reign) (r : Reign) → r.start ≤ n → stamp_at n (rs ++ r ∷ []) ≡ Some r.stamp
+pub stamp_last : (n : ℕ) (rs : List Reign) (r : Reign) → r.start ≤ n → stamp_at n (rs ++ r ∷ []) ≡ Some r.stamp
 stamp_last n [] r le = let yes : nat_le r.start n ≡ true = grind (arith, nat_tests, le) in rw yes refl
 stamp_last n (q ∷ rs) r le = ap (λ (o : Option Stamp). option_or o (if nat_le q.start n then Some q.stamp else None)) (stamp_last n rs r le)
 

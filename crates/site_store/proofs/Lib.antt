@@ -14,7 +14,7 @@ pub mod Parts
 pub mod Newest
 pub mod Waiting
 pub mod Committed
-pub mod Followed
+pub mod Applied
 pub mod Hardened
 pub mod Fronted
 pub mod Marked

@@ -95,6 +95,11 @@ abbrev pub Appends : View → View → Memory → Memory → Transaction → Typ
 Appends u v old new t = (hard waiting : ℕ → List JournalRecord) → KeepsJournals u hard waiting old.journals.journals.items
     → (images : ℕ → List Before) × KeepsJournals v hard (λ r. waiting r ++ (image_records (images r) ++ listed (recorded (parts_of old t r)))) new.journals.journals.items
 
+-- its entries and its nodes are as they were
+pub record HasSameState (old new : Memory) : Type 0 where
+  pub entries : new.entries ≡ old.entries
+  pub globals : joined new.globals ≡ joined old.globals
+
 -- Images of blocks wait besides, and nothing else is new of a site.
 pub record HasLogged (u v : View) (old new : Memory) : Type 0 where
   pub ready : IsReady v new

@@ -1,19 +1,17 @@
 //! Beginning a reign.
-ghost use Rattle.std.specs.Prelude.{◌≡◌, ◌⊎◌, ◌<◌, ◌≤◌, ◌+◌, ◌^◌, ◌++◌, ◌∷◌, [], ℕ, Bool, true, length, take, Some, IfOk, IfSome, OnOk, OnErr, IsErrOf, IsSome};
-ghost use Rattle.std.specs.List.{AllByRecursion};
-ghost use Rattle.global_defs.specs.declared.limits.TheConstants.{MOST_REIGNS, NUMBERS_END};
-ghost use Rattle.global_defs.specs.Entry as defs;
-ghost use Rattle.global_defs.specs.Fields.{IsReign};
-ghost use Rattle.journal_defs.specs.Surviving.{reigns};
-ghost use Rattle.site_defs.specs.Fronts.{with_sequence};
-ghost use Rattle.site_store.specs.Following.{with_adopted};
+ghost use Rattle.std.specs.Prelude.{◌≡◌, ◌⊎◌, ◌<◌, ◌^◌, ◌++◌, ◌∷◌, [], ℕ, List, Bool, true, length, take, Some, IfOk, IfSome, OnOk, OnErr, IsErrOf, IsSome};
+ghost use Rattle.global_defs.specs.declared.limits.TheConstants.{NUMBERS_END};
 ghost use Rattle.disk_defs.specs.Disk.{Image, AtEachMoment, MayFail};
 ghost use Rattle.gvn_model.specs.Reigns.{stamp_value, reign_value};
 ghost use Rattle.journal_defs.specs.Instance.{Reigned, site_name};
+ghost use Rattle.journal_defs.specs.Journal.{JournalRecord};
+ghost use Rattle.region_journals.specs.Journals.{KeepsJournals};
 ghost use Rattle.site_defs.specs.Contents.{Contents, bare};
+ghost use Rattle.site_defs.specs.Fronts.{with_sequence};
 ghost use Rattle.site_defs.specs.Opening.{with_reign};
 ghost use Rattle.site_defs.specs.Stands.{IsSite};
 ghost use Rattle.site_defs.specs.Behind.{IsSiteWith};
+ghost use Rattle.site_store.specs.Following.{IsReignToCome, with_adopted};
 ghost use Rattle.site_store.specs.Site.{IsReady, IsOpen, WasOpened, HasReign, count_of};
 ghost use Rattle.site_store.specs.Reigning.{IsNextReign, HasReignLeft, HasNoReignLeft};
 
@@ -112,14 +110,12 @@ impl Memory {
         reign: &Reign,
     ) -> Result<(), SiteError>
         requires ready { IsReady (D.disk disk.old) self.old }
-        requires form { IsReign (reign_value reign.now) }
-        requires start { reign.now.start ≡ count_of self.old + 1 }
-        requires no_reign_past { AllByRecursion (λ (r : defs.Reign). r.start ≤ count_of self.old) (reigns self.old.instance.records) }
-        requires few { length (reigns self.old.instance.records) < MOST_REIGNS }
+        requires to_come { IsReignToCome self.old (reign_value reign.now) }
         ensures ready { OnOk result (IsReady (D.disk disk.new) self.new) }
         ensures records { OnOk result (self.new.instance.records ≡ self.old.instance.records ++ Reigned (reign_value reign.now) ∷ []) }
         ensures kept { OnErr result (self.new.instance.records ≡ self.old.instance.records) }
         ensures others { self.new ≡ record self.old { instance = self.new.instance } }
+        ensures journals { (hard waiting : ℕ → List JournalRecord) → KeepsJournals (D.disk disk.old) hard waiting self.old.journals.journals.items → KeepsJournals (D.disk disk.new) hard waiting self.new.journals.journals.items }
         ensures begun { OnOk result ((told : Bool) (c : Contents) (h : ℕ) → IsOpen (D.disk disk.old) told c h self.old → IsOpen (D.disk disk.new) told (with_adopted (reign_value reign.now) c) h self.new) }
         // at each moment each image stands for the hardened entries, with the reign or without
         ensures any_moment { (c : Contents) (h : ℕ) → IsOpen (D.disk disk.old) true c h self.old → AtEachMoment (D.disk disk.old) (D.disk disk.new) (λ f. IsSite f (with_sequence c (take h c.sequence)) ⊎ IsSite f (with_adopted (reign_value reign.now) (with_sequence c (take h c.sequence)))) }

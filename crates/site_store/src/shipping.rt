@@ -10,6 +10,7 @@ ghost use Rattle.entry_index.specs.Found.{entry_count};
 ghost use Rattle.entry_index.specs.Parts.{InFiles};
 ghost use Rattle.site_defs.specs.Contents.{Contents};
 ghost use Rattle.wire_defs.specs.Frames.{entry_bytes};
+ghost use Rattle.site_store.specs.Following.{remembered_of};
 ghost use Rattle.site_store.specs.Site.{count_of};
 ghost use Rattle.site_store.specs.Owning.{disk_of, memory_of, GoesOn, HasStopped, MayBeCalled, IsOpenSite};
 
@@ -73,6 +74,7 @@ impl<D: Disk> Site<D> {
         ensures outside { (file offset : ℕ) → IsErrOf result (SiteError.NotAFile file offset) → (c : Contents) (h : ℕ) → IsOpenSite D.disk true c h self.old → ⊥ }
         ensures goes_on { GoesOn self.old → ((fault : ℕ) → IsErrOf result (SiteError.Failed fault) → ⊥) → GoesOn self.new }
         ensures memory { memory_of self.new ≡ memory_of self.old }
+        ensures still_remembered { remembered_of self.new ≡ remembered_of self.old }
         ensures reads { Reads (D.disk (disk_of self.old)) (D.disk (disk_of self.new)) }
         ensures faults { MayFail (D.disk (disk_of self.old)).faults (D.disk (disk_of self.new)).faults (λ fault. IsErrOf result (SiteError.Failed fault)) }
         ensures causes { OnErr result (((fault : ℕ) × IsErrOf result (SiteError.Failed fault)) ⊎ ((fault : ℕ) × IsErrOf result (SiteError.Stopped fault)) ⊎ ((file : ℕ) × (offset : ℕ) × IsErrOf result (SiteError.NotAFile file offset)) ⊎ IsErrOf result SiteError.NoMemory) }

@@ -11,7 +11,6 @@ use Rattle.ship_session.proofs.Last.{all_cut, taken_on, taken_whole, all_made, f
 use Rattle.ship_session.proofs.Order.{onward, prefix_same, gives_before}
 use Rattle.ship_session.proofs.Matched.{matched_on, not_matched}
 use Rattle.ship_session.proofs.Single.{one_at_most}
-use Rattle.ship_session.specs.Ends.{IsMatched}
 use Rattle.ship_session.proofs.session.finish.Goals as goal
 
 pub loop-cuts-init : goal.loop-cuts-init
