@@ -4,3 +4,4 @@ pub mod Turns
 pub mod Room
 pub mod Replied
 pub mod Settled
+mod Followed

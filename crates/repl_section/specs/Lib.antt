@@ -3,3 +3,4 @@ pub mod Replies
 pub mod Lines
 pub mod Deciding
 pub mod Followers
+pub mod Ends

@@ -1,23 +1,19 @@
 //! A follower's session in a section, run to its end.
-ghost use Rattle.std.specs.Prelude.{◌≡◌, ◌≢◌, ◌↔◌, ◌⊎◌, ◌+◌, ◌<◌, ◌≤◌, ℕ, Bool, true, false, length, take, Some, None, IsTrue, IsSome, IfOk, IfSome, OnOk, count_by};
-ghost use Rattle.std.specs.List.{AllByRecursion};
+ghost use Rattle.std.specs.Prelude.{◌≡◌, ◌↔◌, ◌⊎◌, ◌+◌, ◌<◌, ◌≤◌, ℕ, Bool, true, false, length, Some, None, IsTrue, IsSome, IfOk, OnOk, OnErr, count_by};
 ghost use Rattle.global_defs.specs.declared.limits.TheConstants.{NUMBERS_END};
-ghost use Rattle.global_defs.specs.Fields.{IsReign, IsSiteName};
-ghost use Rattle.global_defs.specs.Prefix.{IsPrefix};
-ghost use Rattle.global_defs.specs.Rising.{StartsRise};
+ghost use Rattle.global_defs.specs.Fields.{IsSiteName};
 ghost use Rattle.gvn_model.specs.Entries.{history_value};
-ghost use Rattle.disk_defs.specs.Disk.{Files, Image, Reads, Rose};
-ghost use Rattle.lineage_defs.specs.Histories.{IsCommonOf};
-ghost use Rattle.ship_defs.specs.Greeting.{IsAnswer, carried};
-ghost use Rattle.site_defs.specs.Contents.{Contents};
+ghost use Rattle.disk_defs.specs.Disk.{AtEachMoment, Reads, Rose};
+ghost use Rattle.site_defs.specs.Behind.{IsStanding};
+ghost use Rattle.site_defs.specs.Contents.{Contents, Standing, bare};
 ghost use Rattle.site_defs.specs.Stands.{IsSite};
-ghost use Rattle.site_store.specs.Owning.{disk_of, memory_of, IsGoing, HasStopped, IsOpenSite};
+ghost use Rattle.feeding_defs.specs.Feeding.{HasTaken, IsParted, MayTakeOf, MayTakeLeftOf};
+ghost use Rattle.site_store.specs.Owning.{disk_of, memory_of, GoesOn, IsGoing, HasStopped, IsOpenSite};
 ghost use Rattle.site_store.specs.Site.{count_of};
-ghost use Rattle.update_process.specs.Copies.{history_of};
-ghost use Rattle.wire_defs.specs.Frames.{RollbackFirst};
 ghost use Rattle.wire_defs.specs.Links.{was_cut, past_since};
 ghost use Rattle.session_handshake.specs.Connections.{WereMade};
-ghost use Rattle.repl_section.specs.Followers.{copy_of, IsFitFollower, HasMetFault, MayHaveFollowed};
+ghost use Rattle.repl_section.specs.Ends.{IsAnswered};
+ghost use Rattle.repl_section.specs.Followers.{copy_of, history_on, IsFitFollower};
 
 use crate::follower::Follower;
 use crate::reign::Reign;
@@ -27,7 +23,6 @@ use gvn_key::{Bytes, NoMemory};
 use gvn_model::History;
 use repl_disk::Disk;
 use repl_link::Linker;
-use session_turns::TurnError;
 use ship_session::{SessionEnd, finish};
 use site_store::SiteError;
 use std::alloc::Global;
@@ -89,12 +84,13 @@ fn why_unread(error: SiteError) -> Result<Unread, NoMemory> {
 }
 
 /// Why a follower can't go on, but for want of memory.
-fn stopped(error: TurnError<SiteError>) -> Result<Fed, NoMemory> {
-    match error {
-        TurnError::Site(SiteError::Failed { fault }) => Ok(Fed::with(FollowerEnd::DiskFault(
-            fault,
-        ))),
-        _ => Err(NoMemory),
+fn stopped<D: Disk>(follower: &Follower<D>) -> Result<Fed, NoMemory>
+    ensures fault { IfOk result (λ f. (k : ℕ) × HasStopped k follower.now.site × (f.end ≡ FollowerEnd.DiskFault k) × (f.caught_up ≡ false) × (f.unread ≡ None)) }
+    ensures memory { OnErr result (GoesOn follower.now.site) }
+{
+    match follower.site.fault() {
+        Some(fault) => Ok(Fed::with(FollowerEnd::DiskFault(fault))),
+        None => Err(NoMemory),
     }
 }
 
@@ -126,23 +122,32 @@ pub fn feed<D: Disk, L: Linker>(
     ensures serials { primary.new.serials ≡ primary.old.serials }
     ensures unread { IfOk result (λ f. (k : ℕ) → f.unread ≡ Some (Unread.Failed k) → HasStopped k primary.new.site × Rose (D.disk (disk_of primary.old.site)).faults (D.disk (disk_of primary.new.site)).faults) }
     ensures in_format { (c : Contents) (h : ℕ) → IsOpenSite D.disk true c h primary.old.site → IfOk result (λ f. (file offset : ℕ) → f.unread ≡ Some (Unread.NotAFile file offset) → ⊥) }
-    // the session's connections alone were made, and given back
+    // the session's connections alone were made, and given back: one more than were cut, or four that were
     ensures made { WereMade (L.links links.old) (L.links links.new) follower.old.session (past_since (L.links links.old) (L.links links.new) follower.old.session) }
+    ensures in_turn { length (past_since (L.links links.old) (L.links links.new) follower.old.session) ≤ count_by was_cut (past_since (L.links links.old) (L.links links.new) follower.old.session) + 1 }
     ensures link_cut { IfOk result (λ f. ((n : ℕ) × (f.end ≡ FollowerEnd.LinkCut n)) ↔ (count_by was_cut (past_since (L.links links.old) (L.links links.new) follower.old.session) ≡ 4)) }
+    ensures cut_off { IfOk result (λ f. (n : ℕ) → f.end ≡ FollowerEnd.LinkCut n → length (past_since (L.links links.old) (L.links links.new) follower.old.session) ≡ 4) }
+    ensures uncut { IfOk result (λ f. IsAnswered f.end → length (past_since (L.links links.old) (L.links links.new) follower.old.session) ≡ count_by was_cut (past_since (L.links links.old) (L.links links.new) follower.old.session) + 1) }
     // the numbers that are told are those of the follower's entries
     ensures told { IfOk result (λ f. (n : ℕ) → (f.end ≡ FollowerEnd.At n) ⊎ (f.end ≡ FollowerEnd.LinkCut n) → n ≡ count_of (memory_of follower.new.site)) }
     ensures caught_up { IfOk result (λ f. IsTrue f.caught_up → (f.end ≡ FollowerEnd.At (count_of (memory_of follower.new.site))) × (f.unread ≡ None)) }
     ensures at { IfOk result (λ f. (n : ℕ) → f.end ≡ FollowerEnd.At n → IsTrue f.caught_up ⊎ IsSome f.unread) }
-    // whatever the session came to, the follower has kept what it had
-    ensures grown { IsPrefix (copy_of follower.old).sequence (copy_of follower.new).sequence }
-    // over links that tell their bytes, where what it had is the first of the primary's sequence, what it has is so, and all of it at a BYE
-    ensures in_order { IsTrue (L.links links.old).told → (c : Contents) (h : ℕ) → IsOpenSite D.disk true c h primary.old.site → IsPrefix (copy_of follower.old).sequence c.sequence → IsPrefix (copy_of follower.new).sequence c.sequence }
-    ensures all { IsTrue (L.links links.old).told → (c : Contents) (h : ℕ) → IsOpenSite D.disk true c h primary.old.site → IsPrefix (copy_of follower.old).sequence c.sequence → IfOk result (λ f. IsTrue f.caught_up → (copy_of follower.new).sequence ≡ c.sequence) }
-    // there ROLLBACKFIRST is the primary's answer to the follower as it is
-    ensures answer { IsTrue (L.links links.old).told → (t : ℕ) → IsCommonOf t (history_of (copy_of follower.old)) (history_of (copy_of follower.old)) → IfOk result (λ f. (n : ℕ) → f.end ≡ FollowerEnd.RollbackFirst n → copy_of follower.new ≡ copy_of follower.old) }
-    // at each moment each image of the follower stands for what it had and the first few of the primary's further entries, and perhaps the reign of the next one
-    ensures any_moment { (c p : Contents) (h : ℕ) → IsOpenSite D.disk true c (length c.sequence) follower.old.site → IsOpenSite D.disk true p h primary.old.site → IsPrefix c.sequence p.sequence
-        → (f : Files) → Image (D.disk (disk_of follower.new.site)) f → (o : Contents) × MayHaveFollowed c p o × IsSite f o }
+    // Whatever it was open with, it goes on with that, or with the first few of the primary's further entries where their histories match, whatever those are; behind a BYE with all of them.
+    ensures taken { (known : Bool) (c p : Contents) (h : ℕ) → IsOpenSite D.disk known c (length c.sequence) follower.old.site → IsOpenSite D.disk true p h primary.old.site
+        → IfOk result (λ f. ((k : ℕ) → f.end ≡ FollowerEnd.DiskFault k → ⊥) → (o : Contents) × IsOpenSite D.disk known o (length o.sequence) follower.new.site × ((o ≡ c) ⊎ HasTaken (L.links links.old).told p (length o.sequence) c o)) }
+    ensures all { (known : Bool) (c p : Contents) (h : ℕ) → IsOpenSite D.disk known c (length c.sequence) follower.old.site → IsOpenSite D.disk true p h primary.old.site
+        → IfOk result (λ f. IsTrue f.caught_up → (o : Contents) × IsOpenSite D.disk known o (length o.sequence) follower.new.site × HasTaken (L.links links.old).told p (length o.sequence) c o
+            × (IsTrue (L.links links.old).told → length o.sequence ≡ length p.sequence)) }
+    // ROLLBACKFIRST is the primary's answer to the follower as it is
+    ensures rolls_back { IsTrue (L.links links.old).told → (known : Bool) (c p : Contents) (h : ℕ) → IsOpenSite D.disk known c (length c.sequence) follower.old.site → IsOpenSite D.disk true p h primary.old.site
+        → IfOk result (λ f. (n : ℕ) → f.end ≡ FollowerEnd.RollbackFirst n → IsParted n p c × IsOpenSite D.disk known c (length c.sequence) follower.new.site) }
+    // at each moment each image of the follower stands for what it had, or for that and the first few of the primary's further entries, and perhaps the reign of the next one
+    ensures any_moment { (c p : Contents) (h : ℕ) → IsOpenSite D.disk true c (length c.sequence) follower.old.site → IsOpenSite D.disk true p h primary.old.site
+        → AtEachMoment (D.disk (disk_of follower.old.site)) (D.disk (disk_of follower.new.site)) (λ f. (o : Contents) × MayTakeOf (L.links links.old).told p c o × IsSite f o) }
+    ensures left { (c p : Contents) (h : ℕ) → IsOpenSite D.disk true c (length c.sequence) follower.old.site → IsOpenSite D.disk true p h primary.old.site
+        → AtEachMoment (D.disk (disk_of follower.old.site)) (D.disk (disk_of follower.new.site)) (λ f. (o : Standing) × MayTakeLeftOf (L.links links.old).told p (bare c) o × IsStanding f o) }
+    ensures still_told { IsSome (D.disk (disk_of follower.old.site)).content → IsSome (D.disk (disk_of follower.new.site)).content }
+    ensures simulated { (D.disk (disk_of follower.new.site)).simulated ≡ (D.disk (disk_of follower.old.site)).simulated }
 {
     let theirs = primary.site.history().copy()?;
     let session = follower.session;
@@ -165,14 +170,14 @@ pub fn feed<D: Disk, L: Linker>(
             caught_up: false,
             unread: Some(why_unread(error)?),
         }),
-        Err(error) => stopped(error),
+        Err(_) => stopped(follower),
     }
 }
 
 /// The history of a primary that gives no further entry: its hardened entries, and one more that never comes, so that no BYE is due.
 fn spent_history<D: Disk>(primary: &Reign<D>) -> Result<History, NoMemory>
     ensures few { IfOk result (λ h. h.length < NUMBERS_END) }
-    ensures reigns { IfOk result (λ h. (history_value h).reigns ≡ reigns_of primary.now.site) }
+    ensures reigns { IfOk result (λ h. (history_value h).reigns ≡ (history_on primary.now.site).reigns) }
 {
     Ok(History {
         length: (primary.site.hardened_length() + 1).min(NUMBERS_END - 1),
@@ -194,14 +199,24 @@ pub fn feed_nothing<D: Disk, L: Linker>(
     requires follower { IsGoing D.disk follower.old.site }
     requires fit { IsFitFollower follower.old }
     requires name { IsSiteName name.now }
-    ensures going { OnOk result (IsGoing D.disk follower.new.site × IsFitFollower follower.new) }
+    ensures going { IfOk result (λ f. ((k : ℕ) → f.end ≡ FollowerEnd.DiskFault k → ⊥) → IsGoing D.disk follower.new.site × IsFitFollower follower.new) }
     ensures session { follower.new.session ≡ follower.old.session }
-    // over links that tell their bytes nothing of the follower changes, since no entry is shipped
+    // Over links that tell their bytes nothing of the follower changes, since no entry is shipped; over others what came may have been taken.
     ensures kept { IsTrue (L.links links.old).told → OnOk result (copy_of follower.new ≡ copy_of follower.old) }
-    ensures no_bye { IfOk result (λ f. f.caught_up ≡ false) }
-    ensures no_fault { IfOk result (λ f. (k : ℕ) → f.end ≡ FollowerEnd.DiskFault k → ⊥) }
+    ensures stays_open { IsTrue (L.links links.old).told → (known : Bool) (c : Contents) (h : ℕ) → IsOpenSite D.disk known c h follower.old.site → OnOk result (IsOpenSite D.disk known c h follower.new.site) }
+    ensures taken { (known : Bool) (c p : Contents) → IsOpenSite D.disk known c (length c.sequence) follower.old.site
+        → IfOk result (λ f. ((k : ℕ) → f.end ≡ FollowerEnd.DiskFault k → ⊥) → (o : Contents) × IsOpenSite D.disk known o (length o.sequence) follower.new.site × ((o ≡ c) ⊎ HasTaken (L.links links.old).told p (length o.sequence) c o)) }
+    ensures any_moment { (c p : Contents) → IsOpenSite D.disk true c (length c.sequence) follower.old.site
+        → AtEachMoment (D.disk (disk_of follower.old.site)) (D.disk (disk_of follower.new.site)) (λ f. (o : Contents) × MayTakeOf (L.links links.old).told p c o × IsSite f o) }
+    ensures no_bye { IsTrue (L.links links.old).told → IfOk result (λ f. f.caught_up ≡ false) }
+    ensures no_fault { IsTrue (L.links links.old).told → IfOk result (λ f. (k : ℕ) → f.end ≡ FollowerEnd.DiskFault k → ⊥) }
+    ensures fault { IfOk result (λ f. (k : ℕ) → f.end ≡ FollowerEnd.DiskFault k → HasStopped k follower.new.site × Rose (D.disk (disk_of follower.old.site)).faults (D.disk (disk_of follower.new.site)).faults) }
+    // the session's connections alone were made, and given back: one more than were cut, or four that were
     ensures made { WereMade (L.links links.old) (L.links links.new) follower.old.session (past_since (L.links links.old) (L.links links.new) follower.old.session) }
+    ensures in_turn { length (past_since (L.links links.old) (L.links links.new) follower.old.session) ≤ count_by was_cut (past_since (L.links links.old) (L.links links.new) follower.old.session) + 1 }
     ensures link_cut { IfOk result (λ f. ((n : ℕ) × (f.end ≡ FollowerEnd.LinkCut n)) ↔ (count_by was_cut (past_since (L.links links.old) (L.links links.new) follower.old.session) ≡ 4)) }
+    ensures cut_off { IfOk result (λ f. (n : ℕ) → f.end ≡ FollowerEnd.LinkCut n → length (past_since (L.links links.old) (L.links links.new) follower.old.session) ≡ 4) }
+    ensures uncut { IfOk result (λ f. IsAnswered f.end → length (past_since (L.links links.old) (L.links links.new) follower.old.session) ≡ count_by was_cut (past_since (L.links links.old) (L.links links.new) follower.old.session) + 1) }
     ensures told { IfOk result (λ f. (n : ℕ) → (f.end ≡ FollowerEnd.At n) ⊎ (f.end ≡ FollowerEnd.LinkCut n) → n ≡ count_of (memory_of follower.new.site)) }
 {
     let theirs = spent_history(primary)?;
@@ -229,6 +244,6 @@ pub fn feed_nothing<D: Disk, L: Linker>(
             Ok(Fed::with(FollowerEnd::RollbackFirst(number)))
         }
         Ok(SessionEnd::BadFrame { offset }) => Ok(Fed::with(FollowerEnd::BadFrame(offset))),
-        Err(error) => stopped(error),
+        Err(_) => stopped(follower),
     }
 }

@@ -1,14 +1,14 @@
 //! A site that follows a primary, as an Update Process applies to it.
-ghost use Rattle.std.specs.Prelude.{◌≡◌, ◌+◌, ◌<◌, ◌≤◌, ℕ, length, IsTrue, option_to_list};
+ghost use Rattle.std.specs.Prelude.{◌≡◌, ◌+◌, ◌<◌, ◌≤◌, length, IsTrue, IfSome, OnOk, OnErr};
 ghost use Rattle.std.specs.List.{AllByRecursion};
 ghost use Rattle.global_defs.specs.declared.limits.TheConstants.{NUMBERS_END};
+ghost use Rattle.global_defs.specs.Entry as defs;
 ghost use Rattle.global_defs.specs.Fields.{IsReign};
-ghost use Rattle.global_defs.specs.Prefix.{stamp_at};
-ghost use Rattle.site_defs.specs.Contents.{Contents};
-ghost use Rattle.site_store.specs.Following.{remembered_of, reigns_next};
-ghost use Rattle.site_store.specs.Owning.{disk_of, memory_of, history_in, IsGoing, IsOpenSite};
+ghost use Rattle.journal_defs.specs.Surviving.{reigns};
+ghost use Rattle.site_store.specs.Following.{remembered_of, reigns_next, IsCovered, IsReignToCome};
+ghost use Rattle.site_store.specs.Owning.{memory_of, IsGoing, MayBeCalled};
 ghost use Rattle.site_store.specs.Site.{count_of};
-ghost use Rattle.repl_section.specs.Followers.{copy_of};
+ghost use Rattle.repl_section.specs.Followers.{copy_of, is_going, HasFollowed, IsFitFollower};
 
 use crate::story::Story;
 use global_defs::limits::MOST_REIGNS;
@@ -28,16 +28,20 @@ pub struct Follower<D: Disk> {
     ghost told: { length story.sequence ≡ count_of (memory_of site) },
     ghost few: { count_of (memory_of site) < NUMBERS_END },
     ghost formed: { AllByRecursion IsReign (reigns_next site) },
-    ghost begun: { 1 ≤ length story.sequence → IsTrue (covers (length story.sequence + 1) (reigns_next site)) },
+    ghost begun: { 1 ≤ length story.sequence → IsCovered site },
+    ghost callable: { MayBeCalled D.disk site },
+    ghost coming: { IfSome (remembered_of site) (IsReignToCome (memory_of site)) },
 }
 
 impl<D: Disk> Follower<D> {
     /// A site that was opened, all entries of which are hardened, as the follower of that session.
     pub fn new(session: u32, site: Site<D>) -> Follower<D>
-        requires { IsGoing D.disk site }
+        requires ready { IsGoing D.disk site }
+        requires hardened { (memory_of site).hardened ≡ count_of (memory_of site) }
+        requires begun { AllByRecursion (λ (r : defs.Reign). r.start ≤ count_of (memory_of site)) (reigns (memory_of site).instance.records) }
         ensures session { result.session ≡ session }
         ensures site { result.site ≡ site }
-        ensures copy { (c : Contents) (h : ℕ) → IsOpenSite D.disk true c h site → (copy_of result).sequence ≡ c.sequence }
+        ensures fit { IsFitFollower result }
     {
         let story = Story::of(&site);
         Follower {
@@ -46,24 +50,38 @@ impl<D: Disk> Follower<D> {
             story,
         }
     }
+
+    // Hardens the entry that was applied.
+    fn settle(&mut self) -> Result<(), ApplyError<SiteError>>
+        requires { IsGoing D.disk self.old.site }
+        ensures session { self.new.session ≡ self.old.session }
+        ensures copy { copy_of self.new ≡ copy_of self.old }
+        ensures going { OnOk result (IsTrue (is_going self.new.site)) }
+        ensures stopped { OnErr result (IsTrue (is_going self.new.site) → ⊥) }
+        ensures later { HasFollowed D.disk self.old self.new }
+    {
+        match self.site.harden() {
+            Ok(_) => Ok(()),
+            Err(error) => Err(ApplyError::Other(error)),
+        }
+    }
 }
 
 impl<D: Disk> EntrySink for Follower<D> {
     type Error = SiteError;
 
-    ghost use Rattle.site_store.specs.Owning.{is_going};
-    ghost use Rattle.repl_section.specs.Followers.{copy_of};
+    ghost use Rattle.repl_section.specs.Followers.{copy_of, is_going, HasFollowed};
+    ghost use Rattle.repl_section.proofs.Followed.{followed_none, followed_on};
 
     ghost copy = { λ f. copy_of f };
 
     ghost going = { λ f. is_going f.site };
 
-    // nothing is told of it yet: what its disk may hold at every moment belongs here
-    ghost later = { λ _ _. Unit {0} };
+    ghost later = { λ a b. HasFollowed D.disk a b };
 
-    ghost later_same = { λ _. tt };
+    ghost later_same = { λ a. followed_none D.disk a };
 
-    ghost later_still = { λ _ _ _ _ _. tt };
+    ghost later_still = { λ a b c first second. followed_on D.disk a b c first second };
 
     ghost formed = { λ f. f.formed };
 
@@ -93,14 +111,15 @@ impl<D: Disk> EntrySink for Follower<D> {
             self.story = self.story.with(reigns, &transaction);
         }
         match applied {
-            Ok(()) => Ok(()),
+            Ok(()) => self.settle(),
             Err(SiteError::Full { .. }) => Err(ApplyError::Full),
             Err(error) => Err(ApplyError::Other(error)),
         }
     }
 
+    // each entry was hardened as it was applied
     fn harden(&mut self) -> Result<(), SiteError> {
-        self.site.harden()?;
+        self.story = self.story.when_hardened();
         Ok(())
     }
 }
