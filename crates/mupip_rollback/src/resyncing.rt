@@ -1,13 +1,12 @@
 //! A rollback to what a primary shares.
-ghost use Rattle.std.specs.Prelude.{◌≡◌, ◌-◌, ◌≤◌, ◌<◌, ℕ, length, IfOk, IfSome, IsErrOf, IsSome};
-ghost use Rattle.std.specs.Nat.{min};
+ghost use Rattle.std.specs.Prelude.{◌≡◌, ◌-◌, ◌≤◌, ◌<◌, ℕ, length, min, IfOk, IfSome, IsErrOf, IsSome};
 ghost use Rattle.disk_defs.specs.Disk.{AtEachMoment, MayFail};
 ghost use Rattle.site_defs.specs.Contents.{Contents, Leftover};
 ghost use Rattle.site_defs.specs.Rolling.{rolled};
 ghost use Rattle.site_defs.specs.Stands.{IsSite, HasLeft};
 ghost use Rattle.site_store.specs.Opening.{EachStands};
 ghost use Rattle.mupip_rollback.specs.Rolling.{StandsFor, MayBeRolledBack, MayBeRolledBackWith};
-ghost use Rattle.receiver_server.specs.Answers.{answer_number};
+ghost use Rattle.mupip_rollback.specs.Answers.{answer_number};
 
 use crate::error::RollError;
 use crate::rolling::{Rolled, rollback};
