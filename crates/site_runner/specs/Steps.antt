@@ -1,5 +1,5 @@
 -- What steps at one site are, apart from its disk.
-use Rattle.std.specs.Prelude.{◌≡◌, ℕ, Bool, true, false, ◌∷◌, ◌++◌, List, codes, Some}
+use Rattle.std.specs.Prelude.{◌≡◌, ℕ, Bool, true, false, ◌∷◌, ◌++◌, List, Result, codes, Some}
 use Rattle.std.specs.Fmt.{decimal}
 use Rattle.std.specs.List.{flat_map}
 use Rattle.disk_defs.specs.Disk.{View}
@@ -11,7 +11,11 @@ use Rattle.world_defs.specs.Step.{LeftByRow}
 use Rattle.world_defs.specs.rows.Show.{reign_text}
 use Rattle.world_defs.specs.Ties.{Matches}
 use Rattle.site_runner.specs.Sites.{stamp_of, State, Down, Primary, Second, Failed, Site, site_value, IsHeld}
-use Rattle.site_runner.specs.Executes.{Comes}
+use Rattle.world_defs.specs.rows.Stop.{stop}
+use Rattle.gvn_key.specs.declared.bytes.NoMemory.{NoMemory}
+use Rattle.site_runner.specs.declared.ending.Ended.{Ended}
+use Rattle.site_runner.specs.declared.slot.Slot.{Slot}
+use Rattle.site_runner.specs.Executes.{Comes, Becomes}
 use Rattle.site_store.specs.Site.{count_of}
 
 abbrev pub in_state : Site → State → Site
@@ -44,3 +48,7 @@ ExecutesAt row v old w new before now done = (p : Place) → IsAt v old p → Co
 -- It was cut off for want of memory.
 abbrev pub IsCutAt : (Place → Row) → View → Site → View → Type 0
 IsCutAt row v old w = (p : Place) → IsAt v old p → (q : Place) × LeftByRow (row p) p q × Matches w q
+
+-- Whatever place the site stood at, STOP led from there to such a slot and ended so.
+abbrev pub StopsAt : {D : Type 0} → (D → View) → View → Site → Slot D × Result Ended NoMemory → List ℕ → List ℕ → Type 0
+StopsAt view v s left before now = (p : Place) → IsAt v s p → Becomes view (stop s.name p) p left.0 left.1 before now

@@ -2,10 +2,10 @@
 ghost use Rattle.std.specs.Prelude.{IfOk, OnOk, OnErr};
 ghost use Rattle.world_defs.specs.Meaning.{row_at};
 ghost use Rattle.world_defs.specs.rows.Epoch as rows;
-ghost use Rattle.site_store.specs.Owning.{disk_of};
-ghost use Rattle.site_runner.specs.Ending.{primary, primary_after, is_done_at, StaysReady};
+ghost use Rattle.site_store.specs.Owning.{disk_of, IsGoing};
+ghost use Rattle.site_runner.specs.Ending.{Role, open_as, open_after, is_done_at, StaysGoing};
 ghost use Rattle.site_runner.specs.Executes.{Leaves};
-ghost use Rattle.site_runner.specs.Sites.{IsReadyOpen, IsReadySlot};
+ghost use Rattle.site_runner.specs.Sites.{IsReadyOpen, IsReadySlot, IsReadySecondary};
 ghost use Rattle.site_runner.specs.Steps.{ExecutesAt, IsCutAt};
 
 use super::ending::{Ended, followed, opened};
@@ -22,8 +22,8 @@ use world_laws::leftovers::leftovers_hold;
 fn mark<D: Disk>(site: &mut Site<D>, name: &[u8], text: &mut Bytes) -> Result<Ended, NoMemory>
     requires { IsGoing D.disk site.old }
     ensures ready { IfOk result (StaysGoing D.disk site.new) }
-    ensures done { (at : Memory → State) → IsRole at → IfOk result (λ ended. ExecutesAt (rows.epoch name.now) (D.disk (disk_of site.old)) (open_at at name.now site.old) (D.disk (disk_of site.new)) (open_after at name.now site.new ended) text.old text.new (is_done_at ended)) }
-    ensures cut_off { (at : Memory → State) → IsRole at → OnErr result (IsCutAt (rows.epoch name.now) (D.disk (disk_of site.old)) (open_at at name.now site.old) (D.disk (disk_of site.new))) }
+    ensures done { (role : Role) → IfOk result (λ ended. ExecutesAt (rows.epoch name.now) (D.disk (disk_of site.old)) (open_as role name.now site.old) (D.disk (disk_of site.new)) (open_after role name.now site.new ended) text.old text.new (is_done_at ended)) }
+    ensures cut_off { (role : Role) → OnErr result (IsCutAt (rows.epoch name.now) (D.disk (disk_of site.old)) (open_as role name.now site.old) (D.disk (disk_of site.new))) }
 {
     leftovers_hold();
     let taken = site.epoch();

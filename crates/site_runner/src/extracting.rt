@@ -8,9 +8,9 @@ ghost use Rattle.site_store.specs.Site.{count_of};
 ghost use Rattle.site_store.specs.Owning.{disk_of, memory_of, GoesOn, IsGoing, IsOpenSite};
 ghost use Rattle.world_defs.specs.Meaning.{row_at};
 ghost use Rattle.world_defs.specs.rows.Extract as rows;
-ghost use Rattle.site_runner.specs.Ending.{primary, primary_after, is_done_at, StaysReady};
+ghost use Rattle.site_runner.specs.Ending.{Role, open_as, open_after, is_done_at, StaysGoing};
 ghost use Rattle.site_runner.specs.Executes.{Leaves};
-ghost use Rattle.site_runner.specs.Sites.{IsReadyOpen, IsReadySlot};
+ghost use Rattle.site_runner.specs.Sites.{IsReadyOpen, IsReadySlot, IsReadySecondary};
 ghost use Rattle.site_runner.specs.Steps.{ExecutesAt, IsCutAt};
 
 use super::answering::{damaged, fail};
@@ -56,8 +56,8 @@ fn extract_site<D: Disk>(
     requires ready { IsGoing D.disk site.old }
     requires from { IfSome number (λ from. 0 < from) }
     ensures ready { IfOk result (StaysGoing D.disk site.new) }
-    ensures done { (at : Memory → State) → IsRole at → IfOk result (λ ended. ExecutesAt (rows.extract number name.now) (D.disk (disk_of site.old)) (open_at at name.now site.old) (D.disk (disk_of site.new)) (open_after at name.now site.new ended) text.old text.new (is_done_at ended)) }
-    ensures cut_off { (at : Memory → State) → IsRole at → OnErr result (IsCutAt (rows.extract number name.now) (D.disk (disk_of site.old)) (open_at at name.now site.old) (D.disk (disk_of site.new))) }
+    ensures done { (role : Role) → IfOk result (λ ended. ExecutesAt (rows.extract number name.now) (D.disk (disk_of site.old)) (open_as role name.now site.old) (D.disk (disk_of site.new)) (open_after role name.now site.new ended) text.old text.new (is_done_at ended)) }
+    ensures cut_off { (role : Role) → OnErr result (IsCutAt (rows.extract number name.now) (D.disk (disk_of site.old)) (open_as role name.now site.old) (D.disk (disk_of site.new))) }
 {
     let from = number.unwrap_or(1);
     let mut lines = Bytes::new(text.allocator());

@@ -4,10 +4,10 @@ ghost use Rattle.world_defs.specs.Meaning.{row_at};
 ghost use Rattle.world_defs.specs.Row.{not_running};
 ghost use Rattle.world_defs.specs.rows.Crash as crashing;
 ghost use Rattle.world_defs.specs.rows.Fuse as rows;
-ghost use Rattle.site_store.specs.Owning.{disk_of};
-ghost use Rattle.site_runner.specs.Ending.{down, down_after, primary, primary_after, is_done_at, StaysReady};
+ghost use Rattle.site_store.specs.Owning.{disk_of, IsGoing};
+ghost use Rattle.site_runner.specs.Ending.{Role, down, down_after, open_as, open_after, is_done_at, StaysGoing};
 ghost use Rattle.site_runner.specs.Executes.{Leaves};
-ghost use Rattle.site_runner.specs.Sites.{IsReadyOpen, IsReadySlot, State, state_value, disk_in};
+ghost use Rattle.site_runner.specs.Sites.{IsReadyOpen, IsReadySlot, State, state_value, disk_in, IsReadySecondary};
 ghost use Rattle.site_runner.specs.Steps.{ExecutesAt, in_state};
 
 use super::answering::refuse;
@@ -63,7 +63,7 @@ fn fuse_site<D: Disk>(
 ) -> Result<Ended, NoMemory>
     requires { IsGoing D.disk site.old }
     ensures ready { IfOk result (StaysGoing D.disk site.new) }
-    ensures done { (at : Memory → State) → IsRole at → IfOk result (λ ended. ExecutesAt (rows.fuse calls name.now) (D.disk (disk_of site.old)) (open_at at name.now site.old) (D.disk (disk_of site.new)) (open_after at name.now site.new ended) text.old text.new (is_done_at ended)) }
+    ensures done { (role : Role) → IfOk result (λ ended. ExecutesAt (rows.fuse calls name.now) (D.disk (disk_of site.old)) (open_as role name.now site.old) (D.disk (disk_of site.new)) (open_after role name.now site.new ended) text.old text.new (is_done_at ended)) }
     ensures kept { OnErr result (site.new ≡ site.old) }
 {
     if !site.simulated() {

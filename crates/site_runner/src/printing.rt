@@ -5,11 +5,11 @@ ghost use Rattle.world_defs.specs.Answers.{fault_line};
 ghost use Rattle.world_defs.specs.Meaning.{row_at};
 ghost use Rattle.world_defs.specs.rows.Print as rows;
 ghost use Rattle.world_defs.specs.rows.Print.{file_typed};
-ghost use Rattle.site_store.specs.Owning.{disk_of};
+ghost use Rattle.site_store.specs.Owning.{disk_of, IsGoing};
 ghost use Rattle.site_runner.specs.declared.ending.Ended.TheVariants.{Undone, Failed};
-ghost use Rattle.site_runner.specs.Ending.{down, down_after, primary, primary_after, is_done_at, StaysReady, ShowsBytes};
+ghost use Rattle.site_runner.specs.Ending.{Role, down, down_after, open_as, open_after, is_done_at, StaysGoing, ShowsBytes};
 ghost use Rattle.site_runner.specs.Executes.{Leaves};
-ghost use Rattle.site_runner.specs.Sites.{IsReadyOpen, IsReadySlot};
+ghost use Rattle.site_runner.specs.Sites.{IsReadyOpen, IsReadySlot, IsReadySecondary};
 ghost use Rattle.site_runner.specs.Steps.{ExecutesAt, IsCutAt};
 
 use super::answering::{fail, refuse};
@@ -108,8 +108,8 @@ fn print_site<D: Disk>(
     requires some { 1 ≤ generation }
     requires most { generation ≤ MOST_GENERATIONS }
     ensures ready { IfOk result (StaysGoing D.disk site.new) }
-    ensures done { (at : Memory → State) → IsRole at → IfOk result (λ ended. ExecutesAt (rows.print lost generation name.now) (D.disk (disk_of site.old)) (open_at at name.now site.old) (D.disk (disk_of site.new)) (open_after at name.now site.new ended) text.old text.new (is_done_at ended)) }
-    ensures cut_off { (at : Memory → State) → IsRole at → OnErr result (IsCutAt (rows.print lost generation name.now) (D.disk (disk_of site.old)) (open_at at name.now site.old) (D.disk (disk_of site.new))) }
+    ensures done { (role : Role) → IfOk result (λ ended. ExecutesAt (rows.print lost generation name.now) (D.disk (disk_of site.old)) (open_as role name.now site.old) (D.disk (disk_of site.new)) (open_after role name.now site.new ended) text.old text.new (is_done_at ended)) }
+    ensures cut_off { (role : Role) → OnErr result (IsCutAt (rows.print lost generation name.now) (D.disk (disk_of site.old)) (open_as role name.now site.old) (D.disk (disk_of site.new))) }
 {
     typing_reads_files();
     let mut bytes = Bytes::new(text.allocator());

@@ -9,7 +9,7 @@ ghost use Rattle.world_defs.specs.rows.Show as rows;
 ghost use Rattle.world_defs.specs.rows.Show.{reign_text};
 ghost use Rattle.repl_section.specs.Reigns.{stamp_in};
 ghost use Rattle.site_runner.specs.Executes.{Leaves};
-ghost use Rattle.site_runner.specs.Sites.{IsReadyOpen, IsReadySlot, Primary, reign_in};
+ghost use Rattle.site_runner.specs.Sites.{IsReadyOpen, IsReadySlot, Primary, reign_in, IsReadySecondary, Second, following_in};
 ghost use Rattle.site_runner.specs.Steps.{state_text};
 
 use super::ending::Ended;
@@ -101,7 +101,7 @@ fn write_secondary<D: Disk>(
     name: &[u8],
     text: &mut Bytes,
 ) -> Result<(), NoMemory>
-    ensures { OnOk result (text.new ≡ text.old ++ show_secondary name.now secondary.now) }
+    ensures { OnOk result (text.new ≡ text.old ++ state_text name.now (Second (following_in secondary.now))) }
 {
     let site = &secondary.follower.site;
     let word: &[u8] = if secondary.waits {

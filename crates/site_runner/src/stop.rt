@@ -2,8 +2,11 @@
 ghost use Rattle.std.specs.Prelude.{OnOk};
 ghost use Rattle.world_defs.specs.Meaning.{row_at};
 ghost use Rattle.world_defs.specs.rows.Stop as rows;
+ghost use Rattle.site_store.specs.Owning.{disk_of, IsGoing};
+ghost use Rattle.site_runner.specs.Ending.{Role, open_as};
 ghost use Rattle.site_runner.specs.Executes.{Leaves};
-ghost use Rattle.site_runner.specs.Sites.{IsReadyOpen, IsReadySlot};
+ghost use Rattle.site_runner.specs.Steps.{StopsAt};
+ghost use Rattle.site_runner.specs.Sites.{IsReadyOpen, IsReadySlot, IsReadySecondary};
 
 use super::ending::{Ended, closed};
 use super::marking::tell_epoch;
@@ -23,6 +26,8 @@ fn stop_site<D: Disk>(
 ) -> (Slot<D>, Result<Ended, NoMemory>)
     requires { IsGoing D.disk site }
     ensures ready { OnOk result.1 (IsReadySlot D.disk result.0) }
+    // whatever its role
+    ensures left { (role : Role) → StopsAt D.disk (D.disk (disk_of site)) (open_as role name site) result text.old text.new }
 {
     leftovers_hold();
     let length = site.sequence_length();

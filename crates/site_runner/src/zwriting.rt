@@ -4,7 +4,7 @@ ghost use Rattle.std.specs.Option.{option_copied};
 ghost use Rattle.world_defs.specs.Meaning.{row_at};
 ghost use Rattle.world_defs.specs.rows.Zwrite as rows;
 ghost use Rattle.site_runner.specs.Executes.{Leaves};
-ghost use Rattle.site_runner.specs.Sites.{IsReadyOpen, IsReadySlot};
+ghost use Rattle.site_runner.specs.Sites.{IsReadyOpen, IsReadySlot, IsReadySecondary};
 
 use super::ending::Ended;
 use super::secondary::Secondary;
