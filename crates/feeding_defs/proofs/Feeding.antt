@@ -55,11 +55,14 @@ module _ (rs : List Reign) (all : Sequence) (m : ℕ) (c : Contents) (rise : Sta
   left_on : (o : Contents) → MayTake rs all (fed rs all m c) o → MayTake rs all c o
   left_on o (n, within, how) =
       let le : m ≤ n = subst (λ (k : ℕ). k ≤ n) size within.0 in
-      let low = count.0 in
-      (n, (omega (arith, le, low), within.1), elim how [
-        | inl all_of ↦ inl (all_of ∙ on n le)
-        | inr before ↦ inr (before.0, before.1 ∙ before_on n le)
-      ])
+      let low = count.0 in (
+        n,
+        (omega (arith, le, low), within.1),
+        elim how [
+          | inl all_of ↦ inl (all_of ∙ on n le)
+          | inr before ↦ inr (before.0, before.1 ∙ before_on n le)
+        ],
+      )
 
 pub takes_on : TakesOn
 takes_on rs all m n c rise count le = on rs all m c rise count n le

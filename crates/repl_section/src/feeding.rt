@@ -137,7 +137,7 @@ pub fn feed<D: Disk, L: Linker>(
         → IfOk result (λ f. ((k : ℕ) → f.end ≡ FollowerEnd.DiskFault k → ⊥) → (o : Contents) × IsOpenSite D.disk known o (length o.sequence) follower.new.site × ((o ≡ c) ⊎ HasTaken (L.links links.old).told p (length o.sequence) c o)) }
     ensures all { (known : Bool) (c p : Contents) (h : ℕ) → IsOpenSite D.disk known c (length c.sequence) follower.old.site → IsOpenSite D.disk true p h primary.old.site
         → IfOk result (λ f. IsTrue f.caught_up → (o : Contents) × IsOpenSite D.disk known o (length o.sequence) follower.new.site × HasTaken (L.links links.old).told p (length o.sequence) c o
-            × (IsTrue (L.links links.old).told → length o.sequence ≡ length p.sequence)) }
+        × (IsTrue (L.links links.old).told → length o.sequence ≡ length p.sequence)) }
     // ROLLBACKFIRST is the primary's answer to the follower as it is
     ensures rolls_back { IsTrue (L.links links.old).told → (known : Bool) (c p : Contents) (h : ℕ) → IsOpenSite D.disk known c (length c.sequence) follower.old.site → IsOpenSite D.disk true p h primary.old.site
         → IfOk result (λ f. (n : ℕ) → f.end ≡ FollowerEnd.RollbackFirst n → IsParted n p c × IsOpenSite D.disk known c (length c.sequence) follower.new.site) }

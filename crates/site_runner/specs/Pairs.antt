@@ -2,10 +2,8 @@
 use Rattle.std.specs.Prelude.{ℕ, Bool, false, List, [], ◌∷◌, slice_get, Option, Some, None}
 use Rattle.site_defs.specs.Lists.{first_where}
 use Rattle.command_defs.specs.Commands.{Name}
-
 use Rattle.world_defs.specs.Answers.{NoSite, Stopped, Refusal}
 use Rattle.world_defs.specs.Row.{first_refusal}
-
 use Rattle.site_runner.specs.declared.naming.Refusal as code
 use Rattle.site_runner.specs.declared.slot.Slot.{Slot}
 use Rattle.site_runner.specs.Causes.{cause_value}

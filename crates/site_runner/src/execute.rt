@@ -339,7 +339,14 @@ pub fn execute<D: Disk, L: Linker>(
         }
         Command::Resync { site, number } => roll_back(alloc, slots, site.as_slice(), number, text),
         Command::Fetchresync { site, primary } => {
-            roll_back_to(alloc, slots, links, site.as_slice(), primary.as_slice(), text)
+            roll_back_to(
+                alloc,
+                slots,
+                links,
+                site.as_slice(),
+                primary.as_slice(),
+                text,
+            )
         }
         Command::Cut { site, bytes } => cut(slots, links, site.as_slice(), bytes, text),
         Command::Switch { primary, secondary } => {

@@ -241,7 +241,7 @@ pub fn run<S: Source, K: Sink, D: Disk, L: Linker>(
     // of the links nothing is told where the run ended for want of memory, which may cut a command off
     ensures meaning { (w : World) → AreDisks D.disk disks.old.items w → AreLinks L.links links.old w → IsFresh w
         → (after : World) × AreDisks D.disk disks.new.items after × (result ≢ Status.NoMemory → AreLinks L.links links.new after)
-            × ((r : RanTo result (S.left script.old) (S.left script.new) w after (K.written out.old) (K.written out.new)) × StaysFit result w r.went.told after) }
+        × ((r : RanTo result (S.left script.old) (S.left script.new) w after (K.written out.old) (K.written out.new)) × StaysFit result w r.went.told after) }
     ensures links { ((L.links links.new).told ≡ (L.links links.old).told) × ((L.links links.new).simulated ≡ (L.links links.old).simulated) }
     ensures disks { length disks.new.items ≡ length disks.old.items }
     ensures script { result ≡ Status.Ok → IfSome (S.left script.old) (λ input. IsScript (lines_of input)) }

@@ -31,11 +31,7 @@ fn wait_for<D: Disk>(slot: &mut Slot<D>, name: &[u8])
 }
 
 /// Has all sites that follow the one of that name wait for it, where a rollback of it that ended so may have changed it.
-pub fn wait_behind<D: Disk>(
-    slots: &mut Vec<Slot<D>>,
-    name: &[u8],
-    ended: &Result<Ended, NoMemory>,
-)
+pub fn wait_behind<D: Disk>(slots: &mut Vec<Slot<D>>, name: &[u8], ended: &Result<Ended, NoMemory>)
     ensures slots { slots.new.items ≡ set_back_if (may_have_rolled_so ended.now) name.now slots.old.items }
     ensures ready { AreReady D.disk slots.old.items → AreReady D.disk slots.new.items }
 {
