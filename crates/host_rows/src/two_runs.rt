@@ -38,6 +38,8 @@ fn a_folder_is_one_programs_at_a_time(rt: HostRuntime) -> Result<(), Fail> {
     let _ = fs::remove_dir_all(&rt, "gtmr_locked");
     let mut first = disks(&rt, &rt, "gtmr_locked");
     prints_over(&rt, &rt, &mut first, FIRST_SET, FIRST_SET_PRINTS);
+    let mut second = disks(&rt, &rt, "gtmr_locked");
+    prints_over(&rt, &rt, &mut second, "ATTACH\n", "ATTACH DISKFAULT 1\n");
     prints(
         &rt,
         &rt,
@@ -46,7 +48,8 @@ fn a_folder_is_one_programs_at_a_time(rt: HostRuntime) -> Result<(), Fail> {
         "ATTACH DISKFAULT 1\nATTACH DISKFAULT 2\nB DISKFAULT 3\n",
     );
     drop(first);
-    prints(&rt, &rt, "gtmr_locked", AGAIN, AGAIN_PRINTS);
+    // the disks that were refused take the folder once it's let go
+    prints_over(&rt, &rt, &mut second, AGAIN, AGAIN_PRINTS);
     fs::remove_dir_all(&rt, "gtmr_locked")?;
     Ok(())
 }

@@ -12,7 +12,7 @@ use std::io;
 /// It tells no bytes, and isn't simulated. A folder or a file that isn't there is made at its first write, and a file has length 0
 /// until then. From its first call on the folder is locked, and another program that asks for it fails, and says so by its count.
 ///
-/// Behind a sync that failed every call fails.
+/// Behind a sync that the system failed every call fails.
 #[derive(Drop)]
 pub struct HostDisk {
     files: HostFiles,

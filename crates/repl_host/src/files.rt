@@ -122,28 +122,34 @@ impl HostFiles {
         self.handles.last()?.write_at(at, bytes)
     }
 
-    /// Puts a file, and all names that lead to it, on the disk for good. To a file that isn't there nothing was written.
-    fn sync_all(&mut self, file: u32) -> io::Result<()>
+    /// Puts the file that was opened last, and all names that lead to it, on the disk for good. Where that fails every later call does.
+    fn sync_opened(&mut self) -> io::Result<()>
+        ensures stays { self.old.sync_failed ≡ true → self.new.sync_failed ≡ true }
+        ensures fails { OnErr result (self.new.sync_failed ≡ true) }
+    {
+        let synced = match self.handles.last() {
+            Ok(opened) => opened.sync(),
+            Err(error) => Err(error),
+        };
+        let synced = match synced {
+            Ok(()) => self.folder.sync_names(),
+            Err(error) => Err(error),
+        };
+        if synced.is_err() {
+            self.sync_failed = true;
+        }
+        synced
+    }
+
+    /// Puts a file, and all names that lead to it, on the disk for good. To a file that isn't there nothing was written. A file that can't
+    /// be opened, as where another program has the folder, was asked for nothing, so that later calls may go well.
+    pub fn sync(&mut self, file: u32) -> io::Result<()>
         ensures failed { self.old.sync_failed ≡ true → IsErr result }
         ensures stays { self.old.sync_failed ≡ true → self.new.sync_failed ≡ true }
     {
         if !self.open(file)? {
             return Ok(());
         }
-        self.handles.last()?.sync()?;
-        self.folder.sync_names()
-    }
-
-    /// Puts a file on the disk for good. Where that fails every later call does.
-    pub fn sync(&mut self, file: u32) -> io::Result<()>
-        ensures failed { self.old.sync_failed ≡ true → IsErr result }
-        ensures stays { self.old.sync_failed ≡ true → self.new.sync_failed ≡ true }
-        ensures fails { OnErr result (self.new.sync_failed ≡ true) }
-    {
-        let synced = self.sync_all(file);
-        if synced.is_err() {
-            self.sync_failed = true;
-        }
-        synced
+        self.sync_opened()
     }
 }
