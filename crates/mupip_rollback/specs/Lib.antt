@@ -1,3 +1,4 @@
+pub mod Answers
 pub mod Cutting
 pub mod Errors
 pub mod Preparing

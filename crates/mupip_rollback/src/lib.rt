@@ -7,6 +7,7 @@
 //! - [`recover_backward`] opens a site and closes it again: what is broken behind its entries is written down, and each region has an
 //!   epoch of all of them. It refuses where a region needs forward recovery.
 //! - [`recover_forward`] does so with blocks that are made anew from all entries.
+//! - [`fetchresync`] rolls a site back to what it shares with a primary, by the primary's answer.
 //! - [`set_mode`] sets how a region of a site that is down is journaled from its next generation on.
 #![tactic(auto)]
 
@@ -14,10 +15,12 @@ mod cutting;
 mod error;
 mod preparing;
 mod recovering;
+mod resyncing;
 mod rolling;
 mod setting;
 
 pub use error::RollError;
 pub use recovering::{recover_backward, recover_forward};
+pub use resyncing::fetchresync;
 pub use rolling::{Rolled, rollback};
 pub use setting::{set_mode, set_mode_logged};

@@ -1,6 +1,6 @@
 -- A reign begins.
 use Rattle.std.proofs.Common.{◌≡◌, ◌≢◌, ◌⊎◌, inl, inr, ◌≤◌, ◌<◌, ◌+◌, ◌==◌, ℕ, suc, Bool, true, false, List, [], ◌∷◌, ◌++◌, length, map, take, drop, Some, None, refl, sym, ◌∙◌, ap, subst, arith}
-use Rattle.std.specs.Prelude.{◌^◌, Option, IfSome, IsSomeAnd, ◌||◌, if◌then◌else◌, nat_le, filter}
+use Rattle.std.specs.Prelude.{Option, IfSome, IsSomeAnd, ◌||◌, if◌then◌else◌, nat_le, filter}
 use Rattle.std.specs.List.{AllByRecursion}
 use Rattle.std.specs.Option.{option_or}
 use Rattle.std.proofs.lemmas.Bool.Decides.{nat_tests}
@@ -113,14 +113,14 @@ next_is c h s r m is =
     ∙ ap (λ (x : ℕ). record { stamp = record { root = site_name c.instance; cycle = x }; start = r.start }) (is.cycle ∙ ap (λ (l : List InstanceRecord). greatest_cycle l + 1) m.instance)
     ∙ ap (λ (x : ℕ). record { stamp = record { root = site_name c.instance; cycle = greatest_cycle c.instance + 1 }; start = x }) (is.start ∙ ap (λ (n : ℕ). n + 1) (remembered_length c h s m))
 
-all_past : (n m : ℕ) (rs : List Reign) → AllByRecursion (λ (q : Reign). q.start ≤ n) rs → n < m → AllByRecursion (λ (q : Reign). q.start < m) rs
+pub all_past : (n m : ℕ) (rs : List Reign) → AllByRecursion (λ (q : Reign). q.start ≤ n) rs → n < m → AllByRecursion (λ (q : Reign). q.start < m) rs
 all_past n m [] all more = tt
 all_past n m (r ∷ rs) all more = (omega (arith, all.0), all_past n m rs all.1 more)
 
 pub past_all : (s : Memory) (r : Reign) → AllByRecursion (λ (q : Reign). q.start ≤ count_of s) (reigns s.instance.records) → IsNextReign s r → AllByRecursion (λ (q : Reign). q.start < r.start) (reigns s.instance.records)
 past_all s r all is = all_past (count_of s) r.start (reigns s.instance.records) all (let e = is.start in omega (arith, e))
 
-stamp_last : (n : ℕ) (rs : List Reign) (r : Reign) → r.start ≤ n → stamp_at n (rs ++ r ∷ []) ≡ Some r.stamp
+pub stamp_last : (n : ℕ) (rs : List Reign) (r : Reign) → r.start ≤ n → stamp_at n (rs ++ r ∷ []) ≡ Some r.stamp
 stamp_last n [] r le = let yes : nat_le r.start n ≡ true = grind (arith, nat_tests, le) in rw yes refl
 stamp_last n (q ∷ rs) r le = ap (λ (o : Option Stamp). option_or o (if nat_le q.start n then Some q.stamp else None)) (stamp_last n rs r le)
 
@@ -222,7 +222,7 @@ none_waiting a g n (p ∷ ps) [] none h = absurd h
 none_waiting a g n ps (e ∷ es) none h = absurd (cc none)
 
 -- the journals' files aren't the instance file
-journals_away : (v : View) (s : Memory) → IsReady v s → frames.AreAway (Only INSTANCE) s.journals.journals.items
+pub journals_away : (v : View) (s : Memory) → IsReady v s → frames.AreAway (Only INSTANCE) s.journals.journals.items
 journals_away v s ready r x is e = let file = (ready.journals.each r x is).of.file in absurd (omega (arith, file, e))
 
 layout_begun : (rs : List InstanceRecord) (x : Reign) (l : Layout) → 0 < length rs → HasLayout rs l → HasLayout (rs ++ Reigned x ∷ []) l
@@ -255,7 +255,7 @@ ready_begun v w old new x ready some instance records journals layout stays glob
   each_place = ap (λ (i : EntryIndex). i.regions) entries ∙ ready.each_place ∙ sym (ap (λ (rs : List InstanceRecord). length (regions rs)) records ∙ ap length (regions_kept old.instance.records x some));
 }
 
-instance_in : (w : View) (i : Instance) (rs : List InstanceRecord) → instances.HasRecords w i rs → (f : Files) → Image w f → IsInstance (f INSTANCE) rs
+pub instance_in : (w : View) (i : Instance) (rs : List InstanceRecord) → instances.HasRecords w i rs → (f : Files) → Image w f → IsInstance (f INSTANCE) rs
 instance_in w i rs has f now = among w.content has
   where
     among : (o : Option Files) → IsSomeAnd o (instances.HoldsRecords w i rs) → IsInstance (f INSTANCE) rs
@@ -487,7 +487,7 @@ pub quiet : (v : View) (c : Contents) (old : Memory) → IsOpen v true c (length
 quiet v c old is = started v (λ f. IsSite f c ⊎ IsSite f (begun c)) (λ f now. inl (images_stand v c old is f now))
 
 -- the history, and the starts of its reigns
-not_past : (n m : ℕ) (rs : List Reign) → AllByRecursion (λ (q : Reign). q.start ≤ n) rs → n ≤ m → AllByRecursion (λ (q : Reign). q.start ≤ m) rs
+pub not_past : (n m : ℕ) (rs : List Reign) → AllByRecursion (λ (q : Reign). q.start ≤ n) rs → n ≤ m → AllByRecursion (λ (q : Reign). q.start ≤ m) rs
 not_past n m [] all more = tt
 not_past n m (r ∷ rs) all more = (omega (arith, all.0), not_past n m rs all.1 more)
 

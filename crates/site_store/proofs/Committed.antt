@@ -1,6 +1,6 @@
 -- An entry is prepared, and then appended.
 use Rattle.std.proofs.Common.{◌≡◌, inl, inr, ◌≤◌, ◌<◌, ◌+◌, ◌-◌, ℕ, suc, Bool, true, List, [], ◌∷◌, ◌++◌, length, map, take, drop, Some, None, refl, sym, ◌∙◌, ap, subst, arith, append-nil, length-append}
-use Rattle.std.specs.Prelude.{◌^◌, Option, IfSome, IsSomeAnd, fold, slice_get}
+use Rattle.std.specs.Prelude.{Option, IfSome, IsSomeAnd, fold, slice_get}
 use Rattle.std.specs.List.{flat_map}
 use Rattle.std.specs.FinMap as globals
 use Rattle.std.proofs.lemmas.Bool.{cases_lt}
@@ -12,8 +12,9 @@ use Rattle.std.proofs.Math.Seq.{take-append-add}
 use Rattle.global_defs.specs.declared.limits.TheConstants.{MOST_NODES, MOST_REGIONS, NUMBERS_END}
 use Rattle.disk_defs.specs.Disk.{Files, View, Image, IsLawful, AtEachMoment}
 use Rattle.disk_defs.specs.Frames.{OnlyIn, OthersStay}
+use Rattle.disk_defs.proofs.Frames.{others_same}
 use Rattle.disk_defs.proofs.Moments.{weaker, then_more, holds_now, started}
-use Rattle.global_defs.specs.Entry.{Update, Entry, Sequence, Transaction, apply, state}
+use Rattle.global_defs.specs.Entry.{Update, Entry, Sequence, Stamp, Transaction, apply, state}
 use Rattle.global_defs.specs.Prefix.{stamp_at}
 use Rattle.gvn_model.specs.declared.entry.Transaction as code
 use Rattle.gvn_model.specs.declared.reign.Stamp as code_stamp
@@ -47,6 +48,7 @@ use Rattle.site_defs.specs.Behind.{parts_of_each}
 use Rattle.site_defs.specs.Fronts.{with_sequence}
 use Rattle.site_defs.specs.Stands.{IsSite, HasLeft}
 use Rattle.site_store.specs.declared.memory.Memory.{Memory}
+use Rattle.site_store.specs.declared.layout.Layout.{Layout}
 use Rattle.site_store.specs.Finding.{HasLayout}
 use Rattle.region_store.specs.Joined.{joined, AreChanged}
 use Rattle.site_store.specs.Site.{Remembers, IsReady, AreHeld, Keeps, IsOpen, HasReign, HasRoomFor, AreOnBlocks, with_entry, count_of}
@@ -143,7 +145,7 @@ open_prepared v w told c h old mid p same lawful is = record {
   kept = λ known. keeps_prepared v w c h old mid p lawful (is.kept known);
 }
 
-prepare_moments : (v w : View) (c : Contents) (h : ℕ) (old : Memory) → AtEachMoment v w (Image v) → IsOpen v true c h old → AtEachMoment v w (λ f. IsSite f (with_sequence c (take h c.sequence)))
+pub prepare_moments : (v w : View) (c : Contents) (h : ℕ) (old : Memory) → AtEachMoment v w (Image v) → IsOpen v true c h old → AtEachMoment v w (λ f. IsSite f (with_sequence c (take h c.sequence)))
 prepare_moments v w c h old run is = weaker v w (Image v) (λ f. IsSite f (with_sequence c (take h c.sequence))) (λ f was. (is.kept refl).images f was) run
 
 -- each moment of an append to these journals
@@ -212,12 +214,12 @@ few_longer seq e few room k = subst (λ (l : List Update). globals.len (fold app
 -- What has been done to a site that has one entry more.
 pub record Committed (v w x : View) (old mid new : Memory) (t : code.Transaction) (parts : PartRecords) : Type 0 where
   pub prepares : Prepares v w old mid
-  pub stamp : code_stamp.Stamp
-  pub under : old.stamp ≡ Some stamp
+  -- under this stamp
+  pub stamp : Stamp
+  pub under : stamp_at (count_of old + 1) (reigns old.instance.records) ≡ Some stamp
   pub adds : AddsPlaces parts mid.journals.journals.items mid.entries new.entries
   pub made : joined new.globals ≡ fold apply (joined old.globals) t.updates
   pub are_parts : ArePartsOf old (transaction_value t) parts
-  pub reign : HasReign old
   pub room : HasRoomFor (joined old.globals) t.updates
   pub journals : (g : ℕ) → AreReady w g mid.journals.journals.items → AreReady x g new.journals.journals.items
   pub state : (hard waiting : ℕ → List JournalRecord) → KeepsJournals w hard waiting mid.journals.journals.items → KeepsJournals x hard (λ r. waiting r ++ listed (part_in parts r)) new.journals.journals.items
@@ -229,25 +231,28 @@ pub record Committed (v w x : View) (old mid new : Memory) (t : code.Transaction
   pub globals : new.globals ≡ mid.globals
   pub hardened : new.hardened ≡ mid.hardened
 
-abbrev entry_for : code_stamp.Stamp → code.Transaction → Entry
-entry_for stamp t = record { stamp = stamp_value stamp; transaction = transaction_value t }
+abbrev pub entry_for : Stamp → code.Transaction → Entry
+entry_for stamp t = record { stamp = stamp; transaction = transaction_value t }
 
-abbrev longer : Contents → Entry → Contents
+abbrev pub longer : Contents → Entry → Contents
 longer c e = with_sequence c (c.sequence ++ e ∷ [])
 
 -- its number, and its stamp
 number_of : (c : Contents) (h : ℕ) (s : Memory) → Remembers c h s → h ≤ length c.sequence → count_of s + 1 ≡ h + length (drop h c.sequence) + 1
 number_of c h s m low = let count = remembered_length c h s m in let rest = length-drop h c.sequence in omega (arith, count, rest, low)
 
-stamp_of : (c : Contents) (h : ℕ) (s : Memory) (stamp : code_stamp.Stamp) → Remembers c h s → HasReign s → s.stamp ≡ Some stamp → stamp_at (count_of s + 1) (reigns c.instance) ≡ Some (stamp_value stamp)
-stamp_of c h s stamp m reign is =
-    let told : s.stamp ≡ Some reign.stamp = reign.is in
-    let same : reign.stamp ≡ stamp = cc (told, is) in
-    subst (λ (l : List InstanceRecord). stamp_at (count_of s + 1) (reigns l) ≡ Some (stamp_value stamp)) m.instance
-    (reign.covers (count_of s + 1) (omega arith) ∙ ap (λ (y : code_stamp.Stamp). Some (stamp_value y)) same)
+pub stamp_of : (c : Contents) (h : ℕ) (s : Memory) (stamp : Stamp) → Remembers c h s → stamp_at (count_of s + 1) (reigns s.instance.records) ≡ Some stamp → stamp_at (count_of s + 1) (reigns c.instance) ≡ Some stamp
+stamp_of c h s stamp m under = subst (λ (l : List InstanceRecord). stamp_at (count_of s + 1) (reigns l) ≡ Some stamp) m.instance under
+
+pub stamp_in : (c : Contents) (h : ℕ) (s : Memory) (stamp : Stamp) → Remembers c h s → stamp_at (count_of s + 1) (reigns c.instance) ≡ Some stamp → stamp_at (count_of s + 1) (reigns s.instance.records) ≡ Some stamp
+stamp_in c h s stamp m under = subst (λ (l : List InstanceRecord). stamp_at (count_of s + 1) (reigns l) ≡ Some stamp) (sym m.instance) under
+
+-- that of the site's own reign
+pub own_stamp : (c : Contents) (h : ℕ) (s : Memory) (r : HasReign s) → Remembers c h s → stamp_at (count_of s + 1) (reigns c.instance) ≡ Some (stamp_value r.stamp)
+own_stamp c h s r m = stamp_of c h s (stamp_value r.stamp) m (r.covers (count_of s + 1) (omega arith))
 
 -- the entry
-abbrev entry_of : {v w x : View} {old mid new : Memory} {t : code.Transaction} {parts : PartRecords} → Committed v w x old mid new t parts → Entry
+abbrev pub entry_of : {v w x : View} {old mid new : Memory} {t : code.Transaction} {parts : PartRecords} → Committed v w x old mid new t parts → Entry
 entry_of {t = t} p = entry_for p.stamp t
 
 remembers_longer : (v w x : View) (c : Contents) (h : ℕ) (old mid new : Memory) (t : code.Transaction) (parts : PartRecords) (p : Committed v w x old mid new t parts) → Remembers c h old → Remembers (longer c (entry_of p)) h new
@@ -309,7 +314,7 @@ keeps_longer v w x c h old mid new t parts p before m lawful lawful_after =
     let own : mid.instance.records ≡ c.instance = own_records v w c h old mid p.prepares m in
     let are = are_own v c h old (transaction_value t) parts p.prepares.ready m p.are_parts in
     let part : (ℕ → Option Part) = own_parts c old (transaction_value t) in
-    let under : stamp_at (count_of old + 1) (reigns c.instance) ≡ Some (stamp_value p.stamp) = stamp_of c h old p.stamp m p.reign p.under in
+    let under : stamp_at (count_of old + 1) (reigns c.instance) ≡ Some p.stamp = stamp_of c h old p.stamp m p.under in
     let last : count_of old + 1 ≡ suc (length c.sequence) = (let count = m.count in omega (arith, count)) in
     let in_newest = append_run w x c h mid k ready own p.moments in
     let q = holds_now w x (OnlyIn w (IsNewestFile (suc k.g) (length (regions c.instance))) (HasFirst (suc k.g) (length (regions c.instance)) k.newer k.waits (λ r. 0))) lawful_after in_newest in
@@ -347,7 +352,7 @@ keeps_longer v w x c h old mid new t parts p before m lawful lawful_after =
       no_epoch_past = k.no_epoch_past;
       waiting = k.waiting ++ part ∷ [];
       are_waiting = subst (AreEntries c.instance (suc k.g) h (k.waiting ++ part ∷ [])) (sym (drop-append-le h c.sequence (e ∷ []) k.count))
-          (entries.entries_more c.instance (suc k.g) h (count_of old + 1) k.waiting (drop h c.sequence) (region_in c) (mask_of (region_in c) t.updates) (transaction_value t) (stamp_value p.stamp) k.are_waiting
+          (entries.entries_more c.instance (suc k.g) h (count_of old + 1) k.waiting (drop h c.sequence) (region_in c) (mask_of (region_in c) t.updates) (transaction_value t) p.stamp k.are_waiting
           (number_of c h old m k.count) (let same = k.newest.generation in omega (arith, same)) are.is_split under);
       are_parts = ap (λ (l : List (ℕ → Option Part)). l ++ part ∷ []) k.are_parts
           ∙ sym (parts_more (patterns c.instance) h (count_of old + 1) (drop h c.sequence) e (number_of c h old m k.count))
@@ -367,21 +372,20 @@ keeps_longer v w x c h old mid new t parts p before m lawful lawful_after =
           let mask = mask_of (region_in c) t.updates in
           index_entered w c h mid k ready own image.0 image.1 new.entries parts part e p.adds are.each are.no_other
           (subst (λ (n : ℕ). AreNumbered n part) last (merging.numbers (region_in c) (count_of old + 1) mask (transaction_value t)))
-          (subst (λ (n : ℕ). entry_with part (stamp_at n (reigns c.instance)) ≡ Some e) last (entries.split_entry (reigns c.instance) (count_of old + 1) (region_in c) mask (transaction_value t) (stamp_value p.stamp) are.is_split under));
+          (subst (λ (n : ℕ). entry_with part (stamp_at n (reigns c.instance)) ≡ Some e) last (entries.split_entry (reigns c.instance) (count_of old + 1) (region_in c) mask (transaction_value t) p.stamp are.is_split under));
       instance_file = instance_kept w x mid new (suc k.g) (length mid.journals.journals.items) c.instance stays p.instance k.instance_file;
       journal_files = waits_longer x k.newer k.waits part parts new.journals.journals.items (let size = p.count in let low = ready.journals.few in omega (arith, size, low)) are.each (p.state k.newer k.waits k.journal_files);
     }
 
-with_entry_is : (o : Option code_stamp.Stamp) (stamp : code_stamp.Stamp) (t : Transaction) (c : Contents) → o ≡ Some stamp → with_entry o t c ≡ longer c (record { stamp = stamp_value stamp; transaction = t })
+pub with_entry_is : (o : Option code_stamp.Stamp) (stamp : code_stamp.Stamp) (t : Transaction) (c : Contents) → o ≡ Some stamp → with_entry o t c ≡ longer c (record { stamp = stamp_value stamp; transaction = t })
 with_entry_is o stamp t c is = ap (λ (y : Option code_stamp.Stamp). with_entry y t c) is
 
-pub open_longer : (v w x : View) (told : Bool) (c : Contents) (h : ℕ) (old mid new : Memory) (t : code.Transaction) (parts : PartRecords) → Committed v w x old mid new t parts → IsLawful w → IsLawful x → IsOpen v told c h old
-    → IsOpen x told (with_entry old.stamp (transaction_value t) c) h new
-open_longer v w x told c h old mid new t parts p lawful lawful_after is =
-    subst (λ (d : Contents). IsOpen x told d h new) (sym (with_entry_is old.stamp p.stamp (transaction_value t) c p.under)) (record {
-      remembered = remembers_longer v w x c h old mid new t parts p is.remembered;
-      kept = λ known. keeps_longer v w x c h old mid new t parts p (is.kept known) is.remembered lawful lawful_after;
-    })
+pub open_longer : (v w x : View) (told : Bool) (c : Contents) (h : ℕ) (old mid new : Memory) (t : code.Transaction) (parts : PartRecords) (p : Committed v w x old mid new t parts) → IsLawful w → IsLawful x → IsOpen v told c h old
+    → IsOpen x told (longer c (entry_of p)) h new
+open_longer v w x told c h old mid new t parts p lawful lawful_after is = record {
+  remembered = remembers_longer v w x c h old mid new t parts p is.remembered;
+  kept = λ known. keeps_longer v w x c h old mid new t parts p (is.kept known) is.remembered lawful lawful_after;
+}
 
 -- open for calls, and under its reign
 pub ready_by : (w x : View) (mid new : Memory) → IsReady w mid → ((g : ℕ) → AreReady w g mid.journals.journals.items → AreReady x g new.journals.journals.items) → length new.journals.journals.items ≡ length mid.journals.journals.items
@@ -430,5 +434,31 @@ ready_prepared v w old new js ready journals count stays is instance layout chan
     ready_after v w old new ready (subst (λ (k : RegionJournals). (g : ℕ) → AreReady v g old.journals.journals.items → AreReady w g k.journals.items) (sym is) journals)
     (ap (λ (k : RegionJournals). length k.journals.items) is ∙ count) stays instance layout changed few whole wide
 
+pub state_prepared : (w : View) (hard waiting : ℕ → List JournalRecord) (new : Memory) (js : RegionJournals) → new.journals ≡ js → KeepsJournals w hard waiting js.journals.items → KeepsJournals w hard waiting new.journals.journals.items
+state_prepared w hard waiting new js is keeps = subst (λ (k : RegionJournals). KeepsJournals w hard waiting k.journals.items) (sym is) keeps
+
 pub still_prepared : (parts : PartRecords) (new : Memory) (js : RegionJournals) → new.journals ≡ js → ArePrepared parts js.journals.items → ArePrepared parts new.journals.journals.items
 still_prepared parts new js is prepared = subst (λ (k : RegionJournals). ArePrepared parts k.journals.items) (sym is) prepared
+
+-- An entry that is in memory, whose journals are as they were: nothing was done on the disk.
+module _ (v : View) (old new : Memory) (ready : IsReady v old) (journals : new.journals ≡ old.journals) (same : IsSameSite old new) (changed : AreChanged old.globals new.globals) where
+  pub ready_entered : count_of new < NUMBERS_END → IsWhole new.entries → new.entries.regions ≡ old.entries.regions → IsReady v new
+  ready_entered few whole wide =
+      ready_prepared v v old new old.journals ready (λ g r. r) refl (λ g r. others_same (IsNewestFile g (length old.journals.journals.items)) v) journals same.instance same.layout changed few whole wide
+
+  pub state_entered : (hard waiting : ℕ → List JournalRecord) → KeepsJournals v hard waiting old.journals.journals.items → KeepsJournals v hard waiting new.journals.journals.items
+  state_entered hard waiting keeps = subst (λ (k : RegionJournals). KeepsJournals v hard waiting k.journals.items) (sym journals) keeps
+
+  pub entering : IsReady v new → Prepares v v old (with_places old new)
+  entering now = prepares_of v v old new ready now state_entered same changed (started v (Image v) (λ f now. now)) (others_same (IsOwnJournal old) v)
+
+-- the parts of a transaction are those of another site with the same layout and as many entries
+pub parts_same : (s u : Memory) (t : Transaction) → u.layout ≡ s.layout → count_of u ≡ count_of s → parts_of u t ≡ parts_of s t
+parts_same s u t layout count =
+    ap (λ (l : Layout). split (region_of_update l.directory.patterns) (count_of u + 1) (mask_of (region_of_update l.directory.patterns) t.updates) t) layout
+    ∙ ap (λ (n : ℕ). split (region_of_update s.layout.directory.patterns) (n + 1) (mask_of (region_of_update s.layout.directory.patterns) t.updates) t) count
+
+pub appended_as : (x : View) (old mid new : Memory) (t : Transaction) (hard waiting : ℕ → List JournalRecord) → mid.layout ≡ old.layout → count_of mid ≡ count_of old
+    → KeepsJournals x hard (λ r. waiting r ++ listed (recorded (parts_of mid t r))) new.journals.journals.items → KeepsJournals x hard (λ r. waiting r ++ listed (recorded (parts_of old t r))) new.journals.journals.items
+appended_as x old mid new t hard waiting layout count keeps =
+    subst (λ (f : ℕ → Option Part). KeepsJournals x hard (λ r. waiting r ++ listed (recorded (f r))) new.journals.journals.items) (parts_same old mid t layout count) keeps

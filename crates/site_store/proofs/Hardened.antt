@@ -1,6 +1,6 @@
 -- The entries that wait are hardened.
 use Rattle.std.proofs.Common.{◌≡◌, ◌≤◌, ◌<◌, ℕ, suc, Bool, true, List, [], ◌++◌, length, map, take, drop, filter, refl, sym, ◌∙◌, ap, subst, arith, append-nil}
-use Rattle.std.specs.Prelude.{◌^◌, Option, IfSome}
+use Rattle.std.specs.Prelude.{Option, IfSome}
 use Rattle.std.proofs.Math.Seq.{take-length, drop-length}
 use Rattle.global_defs.specs.declared.limits.TheConstants.{MOST_REGIONS, NUMBERS_END}
 use Rattle.disk_defs.specs.Disk.{Files, View, Image, IsLawful, AtEachMoment}

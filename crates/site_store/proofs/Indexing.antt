@@ -20,7 +20,7 @@ use Rattle.entry_index.specs.Among.{IsIndexOf}
 use Rattle.entry_index.proofs.AmongLaws.{index_stamps}
 
 -- a reign that begins later is none of these entries'
-stamp_later : (n : ℕ) (rs : List Reign) (x : Reign) → n < x.start → stamp_at n (rs ++ x ∷ []) ≡ stamp_at n rs
+pub stamp_later : (n : ℕ) (rs : List Reign) (x : Reign) → n < x.start → stamp_at n (rs ++ x ∷ []) ≡ stamp_at n rs
 stamp_later n [] x late = let no : nat_le x.start n ≡ false = grind (arith, nat_tests) in rw no refl
 stamp_later n (r ∷ rs) x late = ap (λ (o : Option Stamp). option_or o (if nat_le r.start n then Some r.stamp else None)) (stamp_later n rs x late)
 

@@ -7,12 +7,14 @@ pub mod Stood
 pub mod OnBlocks
 pub mod HeldRegions
 pub mod Begun
+pub mod Adopted
 pub mod Nodes
 pub mod Entries
 pub mod Parts
 pub mod Newest
 pub mod Waiting
 pub mod Committed
+pub mod Applied
 pub mod Hardened
 pub mod Fronted
 pub mod Marked

@@ -1,6 +1,6 @@
 -- A site that is brought to an epoch.
 use Rattle.std.proofs.Common.{◌≡◌, ◌⊎◌, inl, inr, ℕ, suc, ◌≤◌, ◌<◌, Bool, true, List, [], ◌++◌, length, map, take, None, Some, refl, sym, ◌∙◌, ap, subst, arith, append-nil}
-use Rattle.std.specs.Prelude.{◌^◌, ◌==◌, ◌&&◌, false, nat_lt, IfSome}
+use Rattle.std.specs.Prelude.{◌==◌, ◌&&◌, false, nat_lt, IfSome}
 use Rattle.std.specs.FinMap as globals
 use Rattle.std.proofs.lemmas.Bool.{cases_lt}
 use Rattle.std.proofs.lemmas.Bool.Decides.{nat_tests}

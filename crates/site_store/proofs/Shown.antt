@@ -5,13 +5,14 @@ use Rattle.std.specs.Option.{option_map}
 use Rattle.std.proofs.lemmas.Bool.{cases_lt}
 use Rattle.std.proofs.lemmas.Option.{slice_get_past}
 use Rattle.disk_defs.specs.Disk.{Files, View, IsLawful}
-use Rattle.global_defs.specs.Entry.{Reign, Entry, Sequence}
+use Rattle.global_defs.specs.Entry.{Reign, Entry, Sequence, Transaction}
 use Rattle.global_defs.specs.Extract.{entry_text}
 use Rattle.journal_defs.specs.Surviving.{reigns}
 use Rattle.disk_defs.proofs.Told.{weaker_told}
 use Rattle.jnl_file.proofs.Newer.{all_told}
 use Rattle.gvn_model.specs.declared.entry.Entry as code_entry
-use Rattle.gvn_model.specs.Entries.{entry_value}
+use Rattle.gvn_model.specs.declared.entry.Transaction as code
+use Rattle.gvn_model.specs.Entries.{entry_value, transaction_value}
 use Rattle.region_journals.proofs.Turns.{found}
 use Rattle.entry_index.specs.declared.index.EntryIndex.{EntryIndex}
 use Rattle.entry_index.specs.Parts.{InFiles}
@@ -20,6 +21,7 @@ use Rattle.entry_index.specs.Found.{entry_count}
 use Rattle.entry_index.proofs.Rows.{past_rows}
 use Rattle.entry_index.proofs.AmongLaws.{counted}
 use Rattle.site_defs.specs.Contents.{Contents}
+use Rattle.wire_defs.specs.Frames.{entry_bytes}
 use Rattle.site_store.specs.declared.error.SiteError.{SiteError}
 use Rattle.site_store.specs.declared.memory.Memory.{Memory}
 use Rattle.site_store.specs.Site.{IsReady, IsOpen}
@@ -103,3 +105,45 @@ module _ (v : View) (s : Memory) (history : List Reign) (lawful : IsLawful v) (r
   no_outside never c h site =
       some_told v.content (λ files. (seq : Sequence) → Indexes (InFiles files) history s.entries seq → ⊥) (λ files. Indexes (InFiles files) history s.entries c.sequence) ⊥
       (told_of v c h s (site.kept refl)) never (indexed c h site) (λ files never_so is. never_so c.sequence is)
+
+-- ---- an entry's bytes
+
+-- the bytes of entry n were added, where there is one
+abbrev pub Ships : ℕ → List ℕ → List ℕ → Sequence → Type 0
+Ships n before now seq = IfSome (slice_get seq (n - 1)) (λ e. now ≡ before ++ entry_bytes n e.transaction)
+
+ships_one : (n : ℕ) (before now : List ℕ) (t : Transaction) (o : Option Entry) → Some t ≡ option_map (λ (e : Entry). e.transaction) o → now ≡ before ++ entry_bytes n t → IfSome o (λ e. now ≡ before ++ entry_bytes n e.transaction)
+ships_one n before now t None is added = tt
+ships_one n before now t (Some e) is added = let same : t ≡ e.transaction = cc is in added ∙ ap (λ (u : Transaction). before ++ entry_bytes n u) same
+
+ships_none : (n : ℕ) (before now : List ℕ) (o : Option Entry) → None ≡ option_map (λ (e : Entry). e.transaction) o → IfSome o (λ e. now ≡ before ++ entry_bytes n e.transaction)
+ships_none n before now None is = tt
+ships_none n before now (Some e) is = absurd (cc is)
+
+-- what an index tells of entry n
+abbrev pub Tells : EntryIndex → ℕ → Option code.Transaction → Files → Type 0
+Tells x n found files = (history : List Reign) (seq : Sequence) → Indexes (InFiles files) history x seq → option_map transaction_value found ≡ option_map (λ (e : Entry). e.transaction) (slice_get seq (n - 1))
+
+abbrev pub ShipsAll : EntryIndex → ℕ → List ℕ → List ℕ → Files → Type 0
+ShipsAll x n before now files = (history : List Reign) (seq : Sequence) → Indexes (InFiles files) history x seq → Ships n before now seq
+
+pub ships_found : (o : Option Files) (x : EntryIndex) (n : ℕ) (before now : List ℕ) (found : Option code.Transaction) (t : code.Transaction) → found ≡ Some t → IfSome o (Tells x n found) → now ≡ before ++ entry_bytes n (transaction_value t) → IfSome o (ShipsAll x n before now)
+ships_found o x n before now found t one told added =
+    weaker_told o (Tells x n found) (ShipsAll x n before now) told
+    (λ files is history seq at. ships_one n before now (transaction_value t) (slice_get seq (n - 1)) (ap (option_map transaction_value) (sym one) ∙ is history seq at) added)
+
+pub ships_no_entry : (o : Option Files) (x : EntryIndex) (n : ℕ) (before now : List ℕ) (found : Option code.Transaction) → found ≡ None → IfSome o (Tells x n found) → IfSome o (ShipsAll x n before now)
+ships_no_entry o x n before now found none told =
+    weaker_told o (Tells x n found) (ShipsAll x n before now) told (λ files is history seq at. ships_none n before now (slice_get seq (n - 1)) (ap (option_map transaction_value) (sym none) ∙ is history seq at))
+
+module _ (v : View) (s : Memory) (lawful : IsLawful v) (ready : IsReady v s) where
+  pub ships_entry : (n : ℕ) (before now : List ℕ) (o : Result (Unit {0}) SiteError) → OnOk o (IfSome v.content (ShipsAll s.entries n before now)) → OnOk o ((c : Contents) (h : ℕ) → IsOpen v true c h s → Ships n before now c.sequence)
+  ships_entry n before now (Err e) told = tt
+  ships_entry n before now (Ok x) told = λ c h site.
+      some_told v.content (ShipsAll s.entries n before now) (λ files. Indexes (InFiles files) (reigns s.instance.records) s.entries c.sequence) (Ships n before now c.sequence)
+      (told_of v c h s (site.kept refl)) told (indexed v s (reigns s.instance.records) lawful ready refl c h site) (λ files ships is. ships (reigns s.instance.records) c.sequence is)
+
+  pub no_bytes_outside : IfSome v.content (λ files. (history : List Reign) (seq : Sequence) → Indexes (InFiles files) history s.entries seq → ⊥) → (c : Contents) (h : ℕ) → IsOpen v true c h s → ⊥
+  no_bytes_outside never c h site =
+      some_told v.content (λ files. (history : List Reign) (seq : Sequence) → Indexes (InFiles files) history s.entries seq → ⊥) (λ files. Indexes (InFiles files) (reigns s.instance.records) s.entries c.sequence) ⊥
+      (told_of v c h s (site.kept refl)) never (indexed v s (reigns s.instance.records) lawful ready refl c h site) (λ files never_so is. never_so (reigns s.instance.records) c.sequence is)

@@ -1,6 +1,6 @@
 -- A site is drawn as it stood.
 use Rattle.std.proofs.Common.{◌≡◌, ℕ, suc, ◌≤◌, ◌<◌, Bool, true, false, List, [], ◌∷◌, ◌++◌, length, map, Option, Some, None, IfSome, sym, ◌∙◌, ap, subst}
-use Rattle.std.specs.Prelude.{◌^◌, slice_get}
+use Rattle.std.specs.Prelude.{slice_get}
 use Rattle.global_defs.specs.declared.limits.TheConstants.{NUMBERS_END}
 use Rattle.disk_defs.specs.Disk.{Files, View, Image, IsLawful, From, AtEachMoment}
 use Rattle.disk_defs.specs.Frames.{OthersStay}

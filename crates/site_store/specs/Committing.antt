@@ -46,9 +46,9 @@ pub record IsSameIndex (old new : EntryIndex) : Type 0 where
   pub regions : new.regions ≡ old.regions
   pub places : new.places.items ≡ old.places.items
 
--- its places are in the index, and its updates are made
+-- the places behind all that its journals had are in the index, and its updates are made
 pub record Enters (old new : Memory) (t : code_transaction.Transaction) (parts : PartRecords) : Type 0 where
-  pub places : AddsPlaces parts new.journals.journals.items old.entries new.entries
+  pub places : AddsPlaces parts old.journals.journals.items old.entries new.entries
   pub globals : joined new.globals ≡ fold apply (joined old.globals) t.updates
   pub changed : AreChanged old.globals new.globals
 
@@ -94,6 +94,11 @@ AppendsPart u v old new t = (hard waiting : ℕ → List JournalRecord) → Keep
 abbrev pub Appends : View → View → Memory → Memory → Transaction → Type 0
 Appends u v old new t = (hard waiting : ℕ → List JournalRecord) → KeepsJournals u hard waiting old.journals.journals.items
     → (images : ℕ → List Before) × KeepsJournals v hard (λ r. waiting r ++ (image_records (images r) ++ listed (recorded (parts_of old t r)))) new.journals.journals.items
+
+-- its entries and its nodes are as they were
+pub record HasSameState (old new : Memory) : Type 0 where
+  pub entries : new.entries ≡ old.entries
+  pub globals : joined new.globals ≡ joined old.globals
 
 -- Images of blocks wait besides, and nothing else is new of a site.
 pub record HasLogged (u v : View) (old new : Memory) : Type 0 where

@@ -8,3 +8,4 @@ pub mod Committing
 pub mod Owning
 pub mod Refusing
 pub mod Needing
+pub mod Following

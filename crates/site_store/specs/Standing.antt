@@ -1,5 +1,5 @@
 -- A site as it stood on a disk.
-use Rattle.std.specs.Prelude.{◌≡◌, ◌<◌, ◌^◌, ◌++◌, ℕ, Bool, false, List, [], ◌∷◌, length, map, take, IfSome}
+use Rattle.std.specs.Prelude.{◌≡◌, ◌<◌, ◌++◌, ℕ, Bool, false, List, [], ◌∷◌, length, map, take, IfSome}
 use Rattle.std.specs.FinMap as globals
 use Rattle.site_defs.specs.Limits.{LAST_GENERATION}
 use Rattle.global_defs.specs.declared.limits.TheConstants.{NUMBERS_END}

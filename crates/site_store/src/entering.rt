@@ -4,7 +4,8 @@ ghost use Rattle.global_defs.specs.Entry.{apply};
 ghost use Rattle.global_defs.specs.Fields.{IsTransaction};
 ghost use Rattle.gvn_model.specs.Entries.{transaction_value};
 ghost use Rattle.entry_index.specs.Parts as places;
-ghost use Rattle.region_store.specs.Joined.{joined, AreChanged};
+ghost use Rattle.entry_index.specs.Rows.{HasRowRoom};
+ghost use Rattle.region_store.specs.Joined.{joined, AreChanged, HasRoomFor};
 ghost use Rattle.site_store.specs.Committing.{IsSameMemory, IsSameSite, AddsPlaces, next_place};
 
 use crate::memory::Memory;
@@ -44,23 +45,32 @@ fn next_places(journals: &RegionJournals, parts: &PartRecords) -> [PartPlace; MO
 }
 
 impl Memory {
-    /// Adds the places where the parts of an entry will stand, and makes its updates. Without memory nothing has changed but what room
-    /// there is.
-    pub(crate) fn remember(&mut self, t: &Transaction, parts: &PartRecords) -> Result<(), NoMemory>
-        requires form { IsTransaction (transaction_value t.now) }
-        requires few { self.old.entries.regions ≤ MOST_REGIONS }
-        ensures entries { OnOk result (AddsPlaces parts.now self.new.journals.journals.items self.old.entries self.new.entries) }
-        ensures globals { OnOk result (joined self.new.globals ≡ fold apply (joined self.old.globals) t.now.updates) }
-        ensures kept { OnErr result (IsSameMemory self.old self.new) }
+    /// Takes the memory for the places of an entry and for its updates. Nothing has changed but what room there is.
+    pub(crate) fn reserve(&mut self, t: &Transaction) -> Result<(), NoMemory>
+        ensures room { OnOk result (HasRowRoom self.new.entries × HasRoomFor self.new.globals t.now.updates) }
+        ensures kept { IsSameMemory self.old self.new }
         ensures changed { AreChanged self.old.globals self.new.globals }
         ensures same { IsSameSite self.old self.new }
         ensures journals { self.new.journals ≡ self.old.journals }
     {
         self.globals.reserve(t.updates.as_slice())?;
+        self.entries.reserve()
+    }
+
+    /// Adds the places where the parts of an entry will stand, and makes its updates. It takes no memory.
+    pub(crate) fn remember(&mut self, t: &Transaction, parts: &PartRecords)
+        requires form { IsTransaction (transaction_value t.now) }
+        requires few { self.old.entries.regions ≤ MOST_REGIONS }
+        requires room { HasRowRoom self.old.entries × HasRoomFor self.old.globals t.now.updates }
+        ensures entries { AddsPlaces parts.now self.new.journals.journals.items self.old.entries self.new.entries }
+        ensures globals { joined self.new.globals ≡ fold apply (joined self.old.globals) t.now.updates }
+        ensures changed { AreChanged self.old.globals self.new.globals }
+        ensures same { IsSameSite self.old self.new }
+        ensures journals { self.new.journals ≡ self.old.journals }
+    {
         let row = next_places(&self.journals, parts);
         let regions = usize::from(self.entries.regions);
-        self.entries.push(&row[..regions])?;
+        self.entries.push_reserved(&row[..regions]);
         self.globals.make(t.updates.as_slice());
-        Ok(())
     }
 }

@@ -2,7 +2,7 @@
 ghost use Rattle.std.specs.Prelude.{◌⊎◌, ◌<◌, ℕ, length, OnOk, OnErr, IsErrOf};
 ghost use Rattle.disk_defs.specs.Disk.{MayFail};
 ghost use Rattle.disk_defs.specs.Frames.{OthersStay};
-ghost use Rattle.site_store.specs.Committing.{HasLogged, AreLoggingMoments, IsSameSite, IsOwnJournal};
+ghost use Rattle.site_store.specs.Committing.{HasLogged, HasSameState, AreLoggingMoments, IsSameSite, IsOwnJournal};
 ghost use Rattle.site_store.specs.Site.{IsReady};
 
 use crate::epochs::answered;
@@ -28,6 +28,7 @@ impl Memory {
         ensures logged { OnOk result (HasLogged (D.disk disk.old) (D.disk disk.new) self.old self.new) }
         ensures goes_on { IsErrOf result SiteError.NoMemory → HasLogged (D.disk disk.old) (D.disk disk.new) self.old self.new }
         ensures same { IsSameSite self.old self.new }
+        ensures still { (fault : ℕ) → IsErrOf result (SiteError.Failed fault) → HasSameState self.old self.new }
         ensures moments { AreLoggingMoments (D.disk disk.old) (D.disk disk.new) self.old }
         ensures frame { OthersStay (IsOwnJournal self.old) (D.disk disk.old) (D.disk disk.new) }
         ensures faults { MayFail (D.disk disk.old).faults (D.disk disk.new).faults (λ fault. IsErrOf result (SiteError.Failed fault)) }
@@ -57,6 +58,7 @@ impl Memory {
         ensures logged { OnOk result (HasLogged (D.disk disk.old) (D.disk disk.new) self.old self.new) }
         ensures goes_on { IsErrOf result SiteError.NoMemory → HasLogged (D.disk disk.old) (D.disk disk.new) self.old self.new }
         ensures same { IsSameSite self.old self.new }
+        ensures still { (fault : ℕ) → IsErrOf result (SiteError.Failed fault) → HasSameState self.old self.new }
         ensures moments { AreLoggingMoments (D.disk disk.old) (D.disk disk.new) self.old }
         ensures frame { OthersStay (IsOwnJournal self.old) (D.disk disk.old) (D.disk disk.new) }
         ensures faults { MayFail (D.disk disk.old).faults (D.disk disk.new).faults (λ fault. IsErrOf result (SiteError.Failed fault)) }
@@ -79,6 +81,7 @@ impl Memory {
         ensures logged { OnOk result (HasLogged (D.disk disk.old) (D.disk disk.new) self.old self.new) }
         ensures goes_on { IsErrOf result SiteError.NoMemory → HasLogged (D.disk disk.old) (D.disk disk.new) self.old self.new }
         ensures same { IsSameSite self.old self.new }
+        ensures still { (fault : ℕ) → IsErrOf result (SiteError.Failed fault) → HasSameState self.old self.new }
         ensures moments { AreLoggingMoments (D.disk disk.old) (D.disk disk.new) self.old }
         ensures frame { OthersStay (IsOwnJournal self.old) (D.disk disk.old) (D.disk disk.new) }
         ensures faults { MayFail (D.disk disk.old).faults (D.disk disk.new).faults (λ fault. IsErrOf result (SiteError.Failed fault)) }
@@ -100,6 +103,7 @@ impl Memory {
         ensures logged { OnOk result (HasLogged (D.disk disk.old) (D.disk disk.new) self.old self.new) }
         ensures goes_on { IsErrOf result SiteError.NoMemory → HasLogged (D.disk disk.old) (D.disk disk.new) self.old self.new }
         ensures same { IsSameSite self.old self.new }
+        ensures still { (fault : ℕ) → IsErrOf result (SiteError.Failed fault) → HasSameState self.old self.new }
         ensures moments { AreLoggingMoments (D.disk disk.old) (D.disk disk.new) self.old }
         ensures frame { OthersStay (IsOwnJournal self.old) (D.disk disk.old) (D.disk disk.new) }
         ensures faults { MayFail (D.disk disk.old).faults (D.disk disk.new).faults (λ fault. IsErrOf result (SiteError.Failed fault)) }

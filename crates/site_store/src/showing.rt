@@ -23,7 +23,7 @@ use jnl_extract::{extract_entry, write_node};
 use repl_disk::Disk;
 
 /// An error of the index, on a disk with this count of faults.
-fn in_index(error: IndexError, fault: u64) -> SiteError
+pub(crate) fn in_index(error: IndexError, fault: u64) -> SiteError
     ensures { result ≡ index_error fault error }
 {
     match error {

@@ -39,6 +39,7 @@ ghost use Rattle.site_store.specs.Refusing.{IsUnwritten};
 ghost use Rattle.site_store.specs.Site.{Remembers, WasOpened, WasOpenedFrom, HasReign, HasRoomFor, with_entry, count_of};
 ghost use Rattle.site_store.specs.Opening.{region_value, made, MayMake, MayBeOpen, MayBeOpenWith, EachStands};
 ghost use Rattle.site_store.specs.Committing.{Appends, IsSameMemory};
+ghost use Rattle.site_store.specs.Following.{remembered_of};
 ghost use Rattle.site_store.specs.Reigning.{IsNextReign, HasReignLeft, HasNoReignLeft};
 ghost use Rattle.site_store.specs.Owning.{disk_of, memory_of, GoesOn, HasStopped, HasHistory, IsGoing, MayBeCalled, IsOpenSite, disk_left, FailsWith, MayFinish};
 
@@ -68,15 +69,17 @@ const LAST_NUMBER: u64 = global_defs::limits::NUMBERS_END - 1;
 /// number, and changes nothing. After `NoMemory` the site goes on as it was.
 #[derive(Drop)]
 pub struct Site<D: Disk> {
-    disk: D,
+    pub(crate) disk: D,
     /// What its files stand for, and its files, open for calls.
-    inner: Memory,
+    pub(crate) inner: Memory,
     /// How many entries there are, and their reigns.
-    history: History,
+    pub(crate) history: History,
     /// For each reign the least start of that and the later ones, by which an entry's reign is found.
-    starts: Vec<u64>,
+    pub(crate) starts: Vec<u64>,
+    /// The reign of a primary that the next entry begins.
+    pub(crate) remembered: Option<Reign>,
     /// The number of the failed call, on the disk, after which the site stopped.
-    fault: Option<u64>,
+    pub(crate) fault: Option<u64>,
 }
 
 /// A reign that is to begin, with the copies that go to the site and to the caller.
@@ -106,7 +109,11 @@ fn history_in(alloc: Global, site: &Memory) -> Result<(History, Vec<u64>), NoMem
 }
 
 /// Adds a reign to a history, and its start behind the others.
-fn add_reign(history: &mut History, starts: &mut Vec<u64>, reign: Reign) -> Result<(), NoMemory>
+pub(crate) fn add_reign(
+    history: &mut History,
+    starts: &mut Vec<u64>,
+    reign: Reign,
+) -> Result<(), NoMemory>
     ensures length { history.new.length ≡ history.old.length }
     ensures reigns { OnOk result (history.new.reigns ≡ history.old.reigns ++ reign_value reign ∷ []) }
     ensures starts { OnOk result (starts.new.items ≡ starts.old.items ++ reign.start ∷ []) }
@@ -123,7 +130,7 @@ fn add_reign(history: &mut History, starts: &mut Vec<u64>, reign: Reign) -> Resu
 }
 
 /// Takes a history's last reign and its start away again.
-fn drop_reign(history: &mut History, starts: &mut Vec<u64>)
+pub(crate) fn drop_reign(history: &mut History, starts: &mut Vec<u64>)
     requires { 0 < length history.old.reigns }
     ensures length { history.new.length ≡ history.old.length }
     ensures reigns { (rs : List defs.Reign) (r : defs.Reign) → history.old.reigns ≡ rs ++ r ∷ [] → history.new.reigns ≡ rs }
@@ -180,6 +187,7 @@ impl<D: Disk> Site<D> {
         ensures found { IfOk result (λ s. IfSome (D.disk disk).content (λ files. (u : Records) (seq : Sequence) → AreRecords files u → IsSequence u seq → WasOpenedFrom u seq (memory_of s))) }
         ensures held { IfOk result (λ s. IfSome (D.disk disk).content (λ files. (u : Records) × (seq : Sequence) × AreRecords files u × IsSequence u seq × WasOpenedFrom u seq (memory_of s) × NoneIsWithout u (length seq))) }
         ensures opened { IfOk result (λ s. WasOpened (memory_of s)) }
+        ensures none_remembered { IfOk result (λ s. remembered_of s ≡ None) }
         ensures drawn { OnOk result (IfSome (D.disk disk).content (λ files. (rs : List instances.InstanceRecord) → IsInstance (files INSTANCE) rs → generation rs < LAST_GENERATION)) }
         ensures limit { FailsWith result SiteError.GenLimit → IfSome (D.disk disk).content (λ files. (rs : List instances.InstanceRecord) → IsInstance (files INSTANCE) rs → LAST_GENERATION ≤ generation rs) }
         ensures limit_told { FailsWith result SiteError.GenLimit → IfSome (D.disk disk).content (λ files. (rs : List instances.InstanceRecord) × IsInstance (files INSTANCE) rs × (LAST_GENERATION ≤ generation rs)) }
@@ -212,6 +220,7 @@ impl<D: Disk> Site<D> {
                 inner,
                 history,
                 starts,
+                remembered: None,
                 fault: None,
             }),
             Err(NoMemory) => Err((disk, SiteError::NoMemory)),
@@ -219,11 +228,12 @@ impl<D: Disk> Site<D> {
     }
 
     /// Stops the site where a call failed.
-    fn note(&mut self, error: SiteError)
+    pub(crate) fn note(&mut self, error: SiteError)
         ensures disk { disk_of self.new ≡ disk_of self.old }
         ensures memory { memory_of self.new ≡ memory_of self.old }
         ensures history { self.new.history ≡ self.old.history }
         ensures starts { self.new.starts.items ≡ self.old.starts.items }
+        ensures remembered { self.new.remembered ≡ self.old.remembered }
         ensures stops { (fault : ℕ) → error ≡ SiteError.Failed fault → HasStopped fault self.new }
         ensures goes_on { ((fault : ℕ) → error ≡ SiteError.Failed fault → ⊥) → self.new ≡ self.old }
     {
@@ -268,6 +278,9 @@ impl<D: Disk> Site<D> {
         ensures stamp { IfOk result (λ stamp. (c : Contents) → c.instance ≡ (memory_of self.old).instance.records → stamp_value stamp ≡ next_stamp (site_name c.instance) c) }
         ensures remembered { IfOk result (λ stamp. (memory_of self.new).stamp ≡ Some stamp) }
         ensures reign { OnOk result (HasReign (memory_of self.new)) }
+        // a reign of a primary
+        ensures forgotten { OnOk result (remembered_of self.new ≡ None) }
+        ensures still_remembered { OnErr result (remembered_of self.new ≡ remembered_of self.old) }
         ensures entries { (memory_of self.new).entries ≡ (memory_of self.old).entries }
         ensures hardened { (memory_of self.new).hardened ≡ (memory_of self.old).hardened }
         ensures room { OnOk result ((c : Contents) (h : ℕ) → Remembers c h (memory_of self.old) → no_reign_left c ≡ false) }
@@ -301,7 +314,10 @@ impl<D: Disk> Site<D> {
         } = self.next_reign()?;
         add_reign(&mut self.history, &mut self.starts, added)?;
         match self.inner.begin_reign(&mut self.disk, &reign, kept) {
-            Ok(()) => Ok(stamp),
+            Ok(()) => {
+                self.remembered = None;
+                Ok(stamp)
+            }
             Err(error) => {
                 drop_reign(&mut self.history, &mut self.starts);
                 self.note(error);
@@ -391,6 +407,9 @@ impl<D: Disk> Site<D> {
         ensures stamp { (memory_of self.new).stamp ≡ (memory_of self.old).stamp }
         ensures entries { (memory_of self.new).entries ≡ (memory_of self.old).entries }
         ensures reign { HasReign (memory_of self.old) → HasReign (memory_of self.new) }
+        ensures globals { (memory_of self.new).globals ≡ (memory_of self.old).globals }
+        ensures unhardened { OnErr result ((memory_of self.new).hardened ≡ (memory_of self.old).hardened) }
+        ensures still_remembered { remembered_of self.new ≡ remembered_of self.old }
         ensures idle { GoesOn self.old → (memory_of self.old).hardened ≡ count_of (memory_of self.old) → IsOk result × (self.new ≡ self.old) }
         ensures any_moment { (c : Contents) (h : ℕ) → IsOpenSite D.disk true c h self.old → AtEachMoment (D.disk (disk_of self.old)) (D.disk (disk_of self.new)) (λ f. (o : Contents) × IsFrontOf c.sequence h c o × IsSite f o) }
         // and what lies behind it are the parts of the next entries that some regions have
@@ -435,6 +454,7 @@ impl<D: Disk> Site<D> {
         ensures instance { (memory_of self.new).instance ≡ (memory_of self.old).instance }
         ensures hardened { (memory_of self.new).hardened ≡ (memory_of self.old).hardened }
         ensures reign { HasReign (memory_of self.old) → HasReign (memory_of self.new) }
+        ensures still_remembered { remembered_of self.new ≡ remembered_of self.old }
         ensures any_moment { (c : Contents) → IsOpenSite D.disk true c (length c.sequence) self.old → AtEachMoment (D.disk (disk_of self.old)) (D.disk (disk_of self.new)) (λ f. (o : Contents) × MayMark c o × IsSite f o) }
         ensures left { (c : Contents) → IsOpenSite D.disk true c (length c.sequence) self.old → AtEachMoment (D.disk (disk_of self.old)) (D.disk (disk_of self.new)) (λ f. (o : Standing) × MayMarkLeft (bare c) o × IsSiteWith f o) }
         ensures still_told { IsSome (D.disk (disk_of self.old)).content → IsSome (D.disk (disk_of self.new)).content }
@@ -470,6 +490,7 @@ impl<D: Disk> Site<D> {
         ensures entries { (memory_of self.new).entries ≡ (memory_of self.old).entries }
         ensures instance { (memory_of self.new).instance ≡ (memory_of self.old).instance }
         ensures reign { HasReign (memory_of self.old) → HasReign (memory_of self.new) }
+        ensures still_remembered { remembered_of self.new ≡ remembered_of self.old }
         ensures any_moment { (c : Contents) (h : ℕ) → IsOpenSite D.disk true c h self.old → AtEachMoment (D.disk (disk_of self.old)) (D.disk (disk_of self.new)) (λ f. (o : Contents) × MayFinish c h o × IsSite f o) }
         // where all entries are hardened already
         ensures marks { (c : Contents) → IsOpenSite D.disk true c (length c.sequence) self.old → AtEachMoment (D.disk (disk_of self.old)) (D.disk (disk_of self.new)) (λ f. (o : Standing) × MayMarkLeft (bare c) o × IsSiteWith f o) }
@@ -555,6 +576,13 @@ impl<D: Disk> Site<D> {
         self.inner.stamp.as_ref()
     }
 
+    /// The number of the failed call, on the disk, after which the site stopped.
+    pub fn fault(&self) -> Option<u64>
+        ensures { result ≡ self.now.fault }
+    {
+        self.fault
+    }
+
     /// What the instance file says of the site.
     pub fn layout(&self) -> &Layout
         ensures { result.now ≡ (memory_of self.now).layout }
@@ -617,6 +645,7 @@ impl<D: Disk> Site<D> {
         ensures outside { (file offset : ℕ) → IsErrOf result (SiteError.NotAFile file offset) → (c : Contents) (h : ℕ) → IsOpenSite D.disk true c h self.old → ⊥ }
         ensures goes_on { GoesOn self.old → ((fault : ℕ) → IsErrOf result (SiteError.Failed fault) → ⊥) → GoesOn self.new }
         ensures memory { memory_of self.new ≡ memory_of self.old }
+        ensures still_remembered { remembered_of self.new ≡ remembered_of self.old }
         ensures reads { Reads (D.disk (disk_of self.old)) (D.disk (disk_of self.new)) }
         ensures faults { MayFail (D.disk (disk_of self.old)).faults (D.disk (disk_of self.new)).faults (λ fault. IsErrOf result (SiteError.Failed fault)) }
         ensures causes { OnErr result (((fault : ℕ) × IsErrOf result (SiteError.Failed fault)) ⊎ ((fault : ℕ) × IsErrOf result (SiteError.Stopped fault)) ⊎ ((file : ℕ) × (offset : ℕ) × IsErrOf result (SiteError.NotAFile file offset)) ⊎ IsErrOf result SiteError.NoMemory) }
@@ -651,6 +680,7 @@ impl<D: Disk> Site<D> {
         ensures front { OnErr result (IsPrefix out.old out.new) }
         ensures goes_on { GoesOn self.old → ((fault : ℕ) → IsErrOf result (SiteError.Failed fault) → ⊥) → GoesOn self.new }
         ensures memory { memory_of self.new ≡ memory_of self.old }
+        ensures still_remembered { remembered_of self.new ≡ remembered_of self.old }
         ensures reads { Reads (D.disk (disk_of self.old)) (D.disk (disk_of self.new)) }
         ensures faults { MayFail (D.disk (disk_of self.old)).faults (D.disk (disk_of self.new)).faults (λ fault. IsErrOf result (SiteError.Failed fault)) }
         ensures causes { OnErr result (((fault : ℕ) × IsErrOf result (SiteError.Failed fault)) ⊎ ((fault : ℕ) × IsErrOf result (SiteError.Stopped fault)) ⊎ IsErrOf result SiteError.NoMemory) }
@@ -685,6 +715,7 @@ impl<D: Disk> Site<D> {
         ensures stays_open { (told : Bool) (c : Contents) (h : ℕ) → IsOpenSite D.disk told c h self.old → IsOpenSite D.disk told c h self.new }
         ensures goes_on { GoesOn self.old → GoesOn self.new }
         ensures kept { memory_of self.new ≡ memory_of self.old }
+        ensures still_remembered { remembered_of self.new ≡ remembered_of self.old }
         ensures fault { (fault : ℕ) → HasStopped fault self.old → HasStopped fault self.new }
         ensures reads { Reads (D.disk (disk_of self.old)) (D.disk (disk_of self.new)) }
         ensures faults { (D.disk (disk_of self.new)).faults ≡ (D.disk (disk_of self.old)).faults }

@@ -2,6 +2,8 @@
 #![tactic(auto)]
 
 #[cfg(test)]
+mod following;
+#[cfg(test)]
 mod modes;
 #[cfg(test)]
 mod sites;

@@ -1,4 +1,4 @@
-use Rattle.std.proofs.Common.{◌≡◌, Err, ap, arith}
+use Rattle.std.proofs.Common.{rules, IsErrOf, ◌≡◌, Err, ◌∙◌, ap, arith}
 use Rattle.std.proofs.lemmas.Result.{err_from_is_err_and}
 use Rattle.disk_defs.proofs.Frames.{others_same}
 use Rattle.site_store.specs.declared.error.SiteError.TheVariants as error
@@ -60,3 +60,10 @@ returns-in_err-log_touched-clause-frame g c =
     let view = g.D.Disk.disk in
     let l = c.loop-update in
     logging.frame_then (view c.args.disk.now) (view l.disk) (view c.log_touched.new.disk) c.args.self.now l.self l.invariant.logged.same l.invariant.frame c.log_touched.ensures.frame
+
+pub returns-in_err-log_touched-clause-still : goal.returns-in_err-log_touched-clause-still
+returns-in_err-log_touched-clause-still g c fault is =
+    let logged = c.loop-update.invariant.logged in
+    let failed : IsErrOf c.log_touched.result (error.Failed fault) = search (rules, is) in
+    let same = c.log_touched.ensures.still fault failed in
+    record { entries = same.entries ∙ logged.entries; globals = same.globals ∙ logged.globals }

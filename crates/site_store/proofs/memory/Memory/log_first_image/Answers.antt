@@ -1,4 +1,5 @@
-use Rattle.std.proofs.Common.{refl, arith}
+use Rattle.std.proofs.Common.{refl, ap, arith}
+use Rattle.region_store.specs.Joined.{joined}
 use Rattle.site_store.proofs.Committed as committed
 use Rattle.site_store.proofs.Errors.{of_each, of_err}
 use Rattle.site_store.proofs.Logged as logging
@@ -33,3 +34,8 @@ returns-clause-moments g c =
 
 pub returns-clause-frame : goal.returns-clause-frame
 returns-clause-frame g c = committed.own_stays (g.D.Disk.disk c.args.disk.now) (g.D.Disk.disk c.log_first_image-logged.new.disk) c.args.self.now c.requires.ready c.log_first_image-logged.ensures.frame
+
+pub returns-clause-still : goal.returns-clause-still
+returns-clause-still g c fault is =
+    let t = c.log_first_image-logged in
+    record { entries = refl; globals = ap joined (of_err t.result _ epochs.Failed t.ensures.kept (c.answered.ensures.count fault is).1) }
