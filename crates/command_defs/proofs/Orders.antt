@@ -14,14 +14,14 @@ use Rattle.global_defs.specs.Key.{Key}
 use Rattle.global_defs.specs.Region.{Region}
 use Rattle.gvn_key.specs.KeyText.{key_reading}
 use Rattle.script_defs.specs.Parts.{word_end}
-use Rattle.command_defs.specs.Commands.{IsFormed, IsWhole, Name, Command, Create, Attach, Map, SetJournal, StartPrimary, Stop, Epoch, Resync, Fuse, Crash, Extract, Zwrite, Show, Print, region_word, region_form, MOST_PICK, MOST_NUMBER, MOST_GENERATION, regions_behind, regions_reading, create_reading, attach_reading, map_reading, set_reading, recover_by, extract_reading, zwrite_reading, command_by, run_reading, AreRegions, IsPattern, IsOrder, create, attach, map_to, set_journal, start, stop, epoch, resync, recover_backward, recover_forward, fuse, crash, extract, extract_from, zwrite, zwrite_from, show, print}
-use Rattle.command_defs.specs.Parts.{followed, taken, taken_if_any, ended, word_form, is_name, name_form, pattern_form, number_form, node_form, file_word, file_form, mode_word, mode_form, way_form}
+use Rattle.command_defs.specs.Commands.{IsFormed, IsWhole, Name, Command, Create, Attach, Map, SetJournal, StartPrimary, StartSecondary, Stop, Epoch, Resync, Fetchresync, Fuse, Crash, Cut, Switch, Extract, Zwrite, Show, Print, region_word, region_form, MOST_PICK, MOST_CUT_BYTES, MOST_NUMBER, MOST_GENERATION, regions_behind, regions_reading, create_reading, attach_reading, map_reading, set_reading, started_by, start_reading, rolled_by, rollback_reading, switch_reading, recover_by, extract_reading, zwrite_reading, command_by, run_reading, AreRegions, IsPattern, IsOrder, create, attach, map_to, set_journal, start, start_secondary, stop, epoch, resync, fetchresync, recover_backward, recover_forward, fuse, crash, cut, switch, extract, extract_from, zwrite, zwrite_from, show, print}
+use Rattle.command_defs.specs.Parts.{followed, taken, taken_if_any, ended, word_form, is_name, name_form, pattern_form, number_form, node_form, file_word, file_form, mode_word, mode_form, way_form, role_form, target_form}
 use Rattle.command_defs.specs.Spelling.{Joins}
 use Rattle.command_defs.proofs.Joined.{IsTight, IsFronted, begins}
 use Rattle.command_defs.proofs.NumberForms.{number_read}
 use Rattle.command_defs.proofs.Patterns.{pattern_read}
 use Rattle.command_defs.proofs.Regions.{names_of, distinct_one}
-use Rattle.command_defs.proofs.Taken.{behind, followed_found, Takes, ended_found, name_taken, word_is, word_taken, spelled_taken, file_is, mode_is, way_word, way_is, number_taken, node_taken, at_end, pattern_taken, Perhaps, missing, there, perhaps_found, taken_read, next, ended_read, word_read, file_read, mode_read, node_read, perhaps_read, perhaps_none, followed_read, site_read, figure_read}
+use Rattle.command_defs.proofs.Taken.{behind, followed_found, Takes, ended_found, name_taken, word_taken, spelled_taken, file_is, mode_is, way_word, way_is, role_word, role_is, target_word, target_is, number_taken, node_taken, at_end, pattern_taken, Perhaps, missing, there, perhaps_found, taken_read, next, ended_read, word_read, file_read, mode_read, node_read, perhaps_read, perhaps_none, followed_read, site_read, figure_read}
 use Rattle.command_defs.proofs.RegionOrders.{Named, region_taken, region_read, regions_found, regions_read}
 use Rattle.gvn_key.proofs.KeyTextFound.{chosen}
 
@@ -264,6 +264,100 @@ set_read len left site region before g h j =
     (followed_read (taken name_form len from_region) _ (region, from_mode) _ (site_read len region h (next (next j)))
     (followed_read (taken mode_form len from_mode) _ (before, behind from_mode) _ (taken_read mode_form len before (next (next (next j))) (mode_read before)) (ended_read len (behind from_mode) _ (next (next (next (next j))))))))
 
+-- START.
+
+start_by : (site : Name) (len : ℕ) (left : List ℕ) (primary : Bool) (c : Command) → is_name site ≡ true → IsTight left → IsFronted left → started_by primary len left site ≡ Ok c
+    → (parts : List (List ℕ)) × IsOrder (codes "START" ∷ site ∷ role_word primary ∷ parts) c × Joins parts left
+start_by site len left true c good tight fronted e =
+    let z = ended_found len left (StartPrimary site) c e in
+    ([], subst (λ x. IsOrder (codes "START" ∷ site ∷ codes "PRIMARY" ∷ []) x) z.1 (start site good), at_end left z.0)
+start_by site len left false c good tight fronted e =
+    let w = followed_found (taken (word_form (codes "OF")) len left) _ c e in
+    let o = word_taken (codes "OF") len left w.0 tight fronted w.1 in
+    let a = followed_found (taken name_form len w.0.1) _ c w.2 in
+    let s = name_taken len w.0.1 a.0 o.tight o.fronted a.1 in
+    let z = ended_found len a.0.1 (StartSecondary site a.0.0) c a.2 in
+    (codes "OF" ∷ a.0.0 ∷ [], subst (λ x. IsOrder (codes "START" ∷ site ∷ codes "SECONDARY" ∷ codes "OF" ∷ a.0.0 ∷ []) x) z.1 (start_secondary site a.0.0 good s.0), o.build (a.0.0 ∷ []) (s.1.build [] (at_end a.0.1 z.0)))
+
+start_found : (len : ℕ) (left : List ℕ) (c : Command) → IsTight left → IsFronted left → start_reading len left ≡ Ok c → Makes (codes "START") left c
+start_found len left c tight fronted e =
+    let a = followed_found (taken name_form len left) _ c e in
+    let s = name_taken len left a.0 tight fronted a.1 in
+    let b = followed_found (taken role_form len a.0.1) _ c a.2 in
+    let r = spelled_taken role_form role_word role_is len a.0.1 b.0 s.1.tight s.1.fronted b.1 in
+    let t = start_by a.0.0 len b.0.1 b.0.0 c s.0 r.tight r.fronted b.2 in
+    record { parts = a.0.0 ∷ role_word b.0.0 ∷ t.0; order = t.1; joined = s.1.build (role_word b.0.0 ∷ t.0) (r.build t.0 t.2) }
+
+start_read : (len : ℕ) (left : List ℕ) (site : Name) → is_name site ≡ true → Joins (site ∷ codes "PRIMARY" ∷ []) left → start_reading len left ≡ Ok (StartPrimary site)
+start_read len left site g j = followed_read (taken name_form len left) _ (site, behind left) _ (site_read len site g j)
+    (followed_read (taken role_form len (behind left)) _ (true, behind (behind left)) _ (taken_read role_form len true (next j) refl) (ended_read len (behind (behind left)) _ (next (next j))))
+
+start_secondary_read : (len : ℕ) (left : List ℕ) (site primary : Name) → is_name site ≡ true → is_name primary ≡ true → Joins (site ∷ codes "SECONDARY" ∷ codes "OF" ∷ primary ∷ []) left → start_reading len left ≡ Ok (StartSecondary site primary)
+start_secondary_read len left site primary g h j =
+    let from_of = behind (behind left) in
+    let from_primary = behind from_of in
+    followed_read (taken name_form len left) _ (site, behind left) _ (site_read len site g j)
+    (followed_read (taken role_form len (behind left)) _ (false, from_of) _ (taken_read role_form len false (next j) refl)
+    (followed_read (taken (word_form (codes "OF")) len from_of) _ (codes "OF", from_primary) _ (taken_read (word_form (codes "OF")) len (codes "OF") (next (next j)) (word_read (codes "OF")))
+    (followed_read (taken name_form len from_primary) _ (primary, behind from_primary) _ (site_read len primary h (next (next (next j)))) (ended_read len (behind from_primary) _ (next (next (next (next j))))))))
+
+-- ROLLBACK.
+
+rollback_by : (site : Name) (len : ℕ) (left : List ℕ) (shares : Bool) (c : Command) → is_name site ≡ true → IsTight left → IsFronted left → rolled_by shares len left site ≡ Ok c
+    → (parts : List (List ℕ)) × IsOrder (codes "ROLLBACK" ∷ site ∷ target_word shares ∷ parts) c × Joins parts left
+rollback_by site len left true c good tight fronted e =
+    let a = followed_found (taken name_form len left) _ c e in
+    let s = name_taken len left a.0 tight fronted a.1 in
+    let z = ended_found len a.0.1 (Fetchresync site a.0.0) c a.2 in
+    (a.0.0 ∷ [], subst (λ x. IsOrder (codes "ROLLBACK" ∷ site ∷ codes "FETCHRESYNC" ∷ a.0.0 ∷ []) x) z.1 (fetchresync site a.0.0 good s.0), s.1.build [] (at_end a.0.1 z.0))
+rollback_by site len left false c good tight fronted e =
+    let d = followed_found (taken (number_form 1 MOST_NUMBER) len left) _ c e in
+    let n = number_taken 1 MOST_NUMBER len left d.0 (omega arith) tight fronted d.1 in
+    let z = ended_found len d.0.1 (Resync site d.0.0) c d.2 in
+    (decimal d.0.0 ∷ [], subst (λ x. IsOrder (codes "ROLLBACK" ∷ site ∷ codes "RESYNC" ∷ decimal d.0.0 ∷ []) x) z.1 (resync site d.0.0 good n.0 n.1), n.2.build [] (at_end d.0.1 z.0))
+
+rollback_found : (len : ℕ) (left : List ℕ) (c : Command) → IsTight left → IsFronted left → rollback_reading len left ≡ Ok c → Makes (codes "ROLLBACK") left c
+rollback_found len left c tight fronted e =
+    let a = followed_found (taken name_form len left) _ c e in
+    let s = name_taken len left a.0 tight fronted a.1 in
+    let b = followed_found (taken target_form len a.0.1) _ c a.2 in
+    let r = spelled_taken target_form target_word target_is len a.0.1 b.0 s.1.tight s.1.fronted b.1 in
+    let t = rollback_by a.0.0 len b.0.1 b.0.0 c s.0 r.tight r.fronted b.2 in
+    record { parts = a.0.0 ∷ target_word b.0.0 ∷ t.0; order = t.1; joined = s.1.build (target_word b.0.0 ∷ t.0) (r.build t.0 t.2) }
+
+fetchresync_read : (len : ℕ) (left : List ℕ) (site primary : Name) → is_name site ≡ true → is_name primary ≡ true → Joins (site ∷ codes "FETCHRESYNC" ∷ primary ∷ []) left → rollback_reading len left ≡ Ok (Fetchresync site primary)
+fetchresync_read len left site primary g h j =
+    let from_primary = behind (behind left) in
+    followed_read (taken name_form len left) _ (site, behind left) _ (site_read len site g j)
+    (followed_read (taken target_form len (behind left)) _ (true, from_primary) _ (taken_read target_form len true (next j) refl)
+    (followed_read (taken name_form len from_primary) _ (primary, behind from_primary) _ (site_read len primary h (next (next j))) (ended_read len (behind from_primary) _ (next (next (next j))))))
+
+resync_read : (len : ℕ) (left : List ℕ) (site : Name) (n : ℕ) → is_name site ≡ true → 1 ≤ n → n ≤ MOST_NUMBER → Joins (site ∷ codes "RESYNC" ∷ decimal n ∷ []) left → rollback_reading len left ≡ Ok (Resync site n)
+resync_read len left site n g low high j =
+    let from_number = behind (behind left) in
+    followed_read (taken name_form len left) _ (site, behind left) _ (site_read len site g j)
+    (followed_read (taken target_form len (behind left)) _ (false, from_number) _ (taken_read target_form len false (next j) refl)
+    (followed_read (taken (number_form 1 MOST_NUMBER) len from_number) _ (n, behind from_number) _ (figure_read 1 MOST_NUMBER len n (omega arith) low high (next (next j))) (ended_read len (behind from_number) _ (next (next (next j))))))
+
+-- SWITCH.
+
+switch_found : (len : ℕ) (left : List ℕ) (c : Command) → IsTight left → IsFronted left → switch_reading len left ≡ Ok c → Makes (codes "SWITCH") left c
+switch_found len left c tight fronted e =
+    let a = followed_found (taken name_form len left) _ c e in
+    let s = name_taken len left a.0 tight fronted a.1 in
+    let b = followed_found (taken name_form len a.0.1) _ c a.2 in
+    let r = name_taken len a.0.1 b.0 s.1.tight s.1.fronted b.1 in
+    let z = ended_found len b.0.1 (Switch a.0.0 b.0.0) c b.2 in
+    record {
+      parts = a.0.0 ∷ b.0.0 ∷ [];
+      order = subst (λ x. IsOrder (codes "SWITCH" ∷ a.0.0 ∷ b.0.0 ∷ []) x) z.1 (switch a.0.0 b.0.0 s.0 r.0);
+      joined = s.1.build (b.0.0 ∷ []) (r.1.build [] (at_end b.0.1 z.0));
+    }
+
+switch_read : (len : ℕ) (left : List ℕ) (primary secondary : Name) → is_name primary ≡ true → is_name secondary ≡ true → Joins (primary ∷ secondary ∷ []) left → switch_reading len left ≡ Ok (Switch primary secondary)
+switch_read len left primary secondary g h j = followed_read (taken name_form len left) _ (primary, behind left) _ (site_read len primary g j)
+    (followed_read (taken name_form len (behind left)) _ (secondary, behind (behind left)) _ (site_read len secondary h (next j)) (ended_read len (behind (behind left)) _ (next (next j))))
+
 -- RECOVER.
 
 recover : (site : Name) (forward : Bool) → is_name site ≡ true → IsOrder (codes "RECOVER" ∷ site ∷ way_word forward ∷ []) (recover_by forward site)
@@ -349,18 +443,20 @@ command_found word len left rest c tight fronted e =
     (by_word (codes "ATTACH") (attach_found len rest c tight fronted)
     (by_word (codes "MAP") (map_found len rest c tight fronted)
     (by_word (codes "SET") (set_found len rest c tight fronted)
-    (by_word (codes "START") (worded_found (codes "START") (word_form (codes "PRIMARY")) (λ word. codes "PRIMARY") (λ site word. StartPrimary site) (word_is (codes "PRIMARY")) (λ site word. start site) len rest c tight fronted)
+    (by_word (codes "START") (start_found len rest c tight fronted)
     (by_word (codes "STOP") (site_found (codes "STOP") Stop stop len rest c tight fronted)
     (by_word (codes "EPOCH") (site_found (codes "EPOCH") Epoch epoch len rest c tight fronted)
-    (by_word (codes "ROLLBACK") (counted_found (codes "ROLLBACK") (word_form (codes "RESYNC")) (λ word. codes "RESYNC") MOST_NUMBER (λ site word. Resync site) (omega arith) (word_is (codes "RESYNC")) (λ site word. resync site) len rest c tight fronted)
+    (by_word (codes "ROLLBACK") (rollback_found len rest c tight fronted)
     (by_word (codes "RECOVER") (worded_found (codes "RECOVER") way_form way_word (λ site way. recover_by way site) way_is recover len rest c tight fronted)
     (by_word (codes "FUSE") (figure_found (codes "FUSE") MOST_CALLS Fuse (omega arith) fuse len rest c tight fronted)
     (by_word (codes "CRASH") (figure_found (codes "CRASH") MOST_PICK Crash (omega arith) crash len rest c tight fronted)
+    (by_word (codes "CUT") (figure_found (codes "CUT") MOST_CUT_BYTES Cut (omega arith) cut len rest c tight fronted)
+    (by_word (codes "SWITCH") (switch_found len rest c tight fronted)
     (by_word (codes "EXTRACT") (extract_found len rest c tight fronted)
     (by_word (codes "ZWRITE") (zwrite_found len rest c tight fronted)
     (by_word (codes "SHOW") (site_found (codes "SHOW") Show show len rest c tight fronted)
     (by_word (codes "TYPE") (counted_found (codes "TYPE") file_form file_word MOST_GENERATION Print (omega arith) file_is print len rest c tight fronted)
-    no_word)))))))))))))) e in
+    no_word)))))))))))))))) e in
     (m.parts, m.order, m.joined)
 
 -- the parts of a command are read as it, and have what a command has
@@ -369,14 +465,18 @@ order_told (create site regions g r) = told (codes "CREATE") refl (created_forme
 order_told attach = told (codes "ATTACH") refl (tt, tt) (λ len left rest j. ended_read len rest Attach j)
 order_told (map_to site region pattern g h p) = told (codes "MAP") refl ((g, h, pattern_read p), tt) (λ len left rest j. map_read len rest site region pattern g h p j)
 order_told (set_journal site region before g h) = told (codes "SET") refl ((g, h), tt) (λ len left rest j. set_read len rest site region before g h j)
-order_told (start site g) = told (codes "START") refl (g, tt) (λ len left rest j. worded_read (word_form (codes "PRIMARY")) (λ site word. StartPrimary site) len rest site (codes "PRIMARY") (codes "PRIMARY") g refl j)
+order_told (start site g) = told (codes "START") refl (g, tt) (λ len left rest j. start_read len rest site g j)
+order_told (start_secondary site primary g h) = told (codes "START") refl ((g, h), tt) (λ len left rest j. start_secondary_read len rest site primary g h j)
 order_told (stop site g) = told (codes "STOP") refl (g, tt) (λ len left rest j. alone_read Stop len rest site g j)
 order_told (epoch site g) = told (codes "EPOCH") refl (g, tt) (λ len left rest j. alone_read Epoch len rest site g j)
-order_told (resync site n g low high) = told (codes "ROLLBACK") refl ((g, low, high), tt) (λ len left rest j. counted_read (word_form (codes "RESYNC")) MOST_NUMBER (λ site word. Resync site) (omega arith) len rest site (codes "RESYNC") (codes "RESYNC") n g refl low high j)
+order_told (resync site n g low high) = told (codes "ROLLBACK") refl ((g, low, high), tt) (λ len left rest j. resync_read len rest site n g low high j)
+order_told (fetchresync site primary g h) = told (codes "ROLLBACK") refl ((g, h), tt) (λ len left rest j. fetchresync_read len rest site primary g h j)
 order_told (recover_backward site g) = told (codes "RECOVER") refl (g, tt) (λ len left rest j. worded_read way_form (λ site way. recover_by way site) len rest site (codes "BACKWARD") false g refl j)
 order_told (recover_forward site g) = told (codes "RECOVER") refl (g, tt) (λ len left rest j. worded_read way_form (λ site way. recover_by way site) len rest site (codes "FORWARD") true g refl j)
 order_told (fuse site n g h) = told (codes "FUSE") refl ((g, h), tt) (λ len left rest j. numbered_read MOST_CALLS Fuse (omega arith) len rest site n g h j)
 order_told (crash site n g h) = told (codes "CRASH") refl ((g, h), tt) (λ len left rest j. numbered_read MOST_PICK Crash (omega arith) len rest site n g h j)
+order_told (cut site n g h) = told (codes "CUT") refl ((g, h), tt) (λ len left rest j. numbered_read MOST_CUT_BYTES Cut (omega arith) len rest site n g h j)
+order_told (switch primary secondary g h) = told (codes "SWITCH") refl ((g, h), tt) (λ len left rest j. switch_read len rest primary secondary g h j)
 order_told (extract site g) = told (codes "EXTRACT") refl (g, tt) (λ len left rest j. extract_read len rest site g j)
 order_told (extract_from site n g low high) = told (codes "EXTRACT") refl ((g, low, high), tt) (λ len left rest j. extract_from_read len rest site n g low high j)
 order_told (zwrite site g) = told (codes "ZWRITE") refl (g, tt) (λ len left rest j. zwrite_read len rest site g j)

@@ -14,7 +14,7 @@ use Rattle.gvn_key.specs.KeyText.{key_reading}
 use Rattle.gvn_key.specs.declared.key.KeyError.{KeyError}
 use Rattle.script_defs.specs.Parts.{word_end, without_spaces}
 use Rattle.command_defs.specs.Commands.{Name, IsPattern}
-use Rattle.command_defs.specs.Parts.{column, followed, formed, taken, taken_if_any, ended, word_form, is_name, name_form, pattern_form, number_form, node_of, node_form, either_form, file_word, file_form, mode_word, mode_form, way_form}
+use Rattle.command_defs.specs.Parts.{column, followed, formed, taken, taken_if_any, ended, word_form, is_name, name_form, pattern_form, number_form, node_of, node_form, either_form, file_word, file_form, mode_word, mode_form, way_form, role_form, target_form}
 use Rattle.global_defs.specs.Pattern.{is_pattern}
 use Rattle.command_defs.specs.Spelling.{Joins, nothing}
 use Rattle.command_defs.proofs.Joined.{IsTight, IsFronted, tight_drop, tight_without, fronted_without, joins, begins, begins_none}
@@ -125,6 +125,20 @@ way_word forward = if forward then codes "FORWARD" else codes "BACKWARD"
 
 pub way_is : (text : List ℕ) (forward : Bool) → way_form text ≡ Some forward → text ≡ way_word forward
 way_is text forward e = either_is (codes "FORWARD") (codes "BACKWARD") text forward e
+
+-- the word for what a site is opened as
+abbrev pub role_word : (primary : Bool) → List ℕ
+role_word primary = if primary then codes "PRIMARY" else codes "SECONDARY"
+
+pub role_is : (text : List ℕ) (primary : Bool) → role_form text ≡ Some primary → text ≡ role_word primary
+role_is text primary e = either_is (codes "PRIMARY") (codes "SECONDARY") text primary e
+
+-- the word for what a site is rolled back to
+abbrev pub target_word : (shares : Bool) → List ℕ
+target_word shares = if shares then codes "FETCHRESYNC" else codes "RESYNC"
+
+pub target_is : (text : List ℕ) (shares : Bool) → target_form text ≡ Some shares → text ≡ target_word shares
+target_is text shares e = either_is (codes "FETCHRESYNC") (codes "RESYNC") text shares e
 
 pub number_taken : (least most len : ℕ) (left : List ℕ) (p : ℕ × List ℕ) → most < 2 ^ 64 → IsTight left → IsFronted left → taken (number_form least most) len left ≡ Ok p
     → (least ≤ p.0) × (p.0 ≤ most) × Takes (decimal p.0) left p.1

@@ -12,7 +12,7 @@ use Rattle.global_defs.specs.Pattern.{is_global_name, is_pattern}
 use Rattle.global_defs.specs.Serial.{without_next}
 use Rattle.global_defs.specs.Region.{Region}
 use Rattle.gvn_key.specs.KeyText.{key_reading}
-use Rattle.command_defs.specs.Parts.{column, followed, taken, taken_if_any, ended, word_form, is_name, name_form, pattern_form, number_form, node_form, file_word, file_form, mode_word, mode_form, way_form}
+use Rattle.command_defs.specs.Parts.{column, followed, taken, taken_if_any, ended, word_form, is_name, name_form, pattern_form, number_form, node_form, file_word, file_form, mode_word, mode_form, way_form, role_form, target_form}
 use Rattle.command_defs.specs.Updaters.{UPDATERS, is_updater, is_of_size}
 
 -- of a site or a region
@@ -31,6 +31,8 @@ pub data Command : Type 0 where
   -- the names that match the pattern go to that region; a pattern is a global's name, or one and a star
   Map : Name → (region : Name) → (pattern : List ℕ) → Command
   StartPrimary : Name → Command
+  -- the site is opened as a secondary of that primary, whose entries it follows from then on (GT.M: MUPIP REPLICATE -RECEIVER -START)
+  StartSecondary : Name → (primary : Name) → Command
   -- the jobs of each updater, updater u at place u - 1, and the updaters in the order of their jobs' first lines
   Run : Name → List (List Job) → (order : List ℕ) → Command
   Stop : Name → Command
@@ -38,6 +40,8 @@ pub data Command : Type 0 where
   Epoch : Name → Command
   -- the site is rolled back so that its next entry is that number, or stays as long as it is (GT.M: MUPIP JOURNAL -ROLLBACK -BACKWARD -RESYNC -LOSTTRANS)
   Resync : Name → (number : ℕ) → Command
+  -- the site is rolled back to what it shares with that primary (GT.M: MUPIP JOURNAL -ROLLBACK -BACKWARD -FETCHRESYNC -LOSTTRANS)
+  Fetchresync : Name → (primary : Name) → Command
   -- the site is recovered from its journals, and is down again (GT.M: MUPIP JOURNAL -RECOVER -BACKWARD)
   RecoverBackward : Name → Command
   -- its blocks are made anew from all that its journals have, and it is down again (GT.M: MUPIP JOURNAL -RECOVER -FORWARD)
@@ -46,6 +50,10 @@ pub data Command : Type 0 where
   Fuse : Name → (calls : ℕ) → Command
   -- the site's disk takes the image of that pick
   Crash : Name → (pick : ℕ) → Command
+  -- one more connection of the site as a secondary is to be cut after so many bytes from its primary
+  Cut : Name → (bytes : ℕ) → Command
+  -- the primary and its secondary are closed, and opened in each other's place
+  Switch : (primary secondary : Name) → Command
   -- the entries from that number on, or all
   Extract : Name → (from : Option ℕ) → Command
   -- that node and its descendants, or all nodes (GT.M: ZWRITE)
@@ -62,6 +70,10 @@ MOST_PICK = 2 ^ 32 - 1
 
 abbrev pub MOST_NUMBER : ℕ
 MOST_NUMBER = NUMBERS_END
+
+-- after how many bytes a connection may be cut, at most
+abbrev pub MOST_CUT_BYTES : ℕ
+MOST_CUT_BYTES = 10 ^ 9
 
 -- the greatest generation of a file
 abbrev pub MOST_GENERATION : ℕ
@@ -112,9 +124,14 @@ map_reading len left = followed (taken name_form len left) (λ site. followed (t
 abbrev pub set_reading : ℕ → List ℕ → Result Command ℕ
 set_reading len left = followed (taken (word_form (codes "JOURNAL")) len left) (λ word. followed (taken name_form len word.1) (λ site. followed (taken name_form len site.1) (λ region. followed (taken mode_form len region.1) (λ mode. ended len mode.1 (SetJournal site.0 region.0 mode.0)))))
 
--- START site PRIMARY
+-- a primary, or a secondary of another site
+abbrev pub started_by : (is_primary : Bool) → ℕ → List ℕ → Name → Result Command ℕ
+started_by true len left site = ended len left (StartPrimary site)
+started_by false len left site = followed (taken (word_form (codes "OF")) len left) (λ word. followed (taken name_form len word.1) (λ primary. ended len primary.1 (StartSecondary site primary.0)))
+
+-- START site PRIMARY, or SECONDARY OF primary
 abbrev pub start_reading : ℕ → List ℕ → Result Command ℕ
-start_reading len left = followed (taken name_form len left) (λ site. followed (taken (word_form (codes "PRIMARY")) len site.1) (λ role. ended len role.1 (StartPrimary site.0)))
+start_reading len left = followed (taken name_form len left) (λ site. followed (taken role_form len site.1) (λ role. started_by role.0 len role.1 site.0))
 
 -- STOP site
 abbrev pub stop_reading : ℕ → List ℕ → Result Command ℕ
@@ -124,9 +141,14 @@ stop_reading len left = followed (taken name_form len left) (λ site. ended len 
 abbrev pub epoch_reading : ℕ → List ℕ → Result Command ℕ
 epoch_reading len left = followed (taken name_form len left) (λ site. ended len site.1 (Epoch site.0))
 
--- ROLLBACK site RESYNC number
+-- to what it shares with a primary, or to a number
+abbrev pub rolled_by : (shares : Bool) → ℕ → List ℕ → Name → Result Command ℕ
+rolled_by true len left site = followed (taken name_form len left) (λ primary. ended len primary.1 (Fetchresync site primary.0))
+rolled_by false len left site = followed (taken (number_form 1 MOST_NUMBER) len left) (λ number. ended len number.1 (Resync site number.0))
+
+-- ROLLBACK site FETCHRESYNC primary, or RESYNC number
 abbrev pub rollback_reading : ℕ → List ℕ → Result Command ℕ
-rollback_reading len left = followed (taken name_form len left) (λ site. followed (taken (word_form (codes "RESYNC")) len site.1) (λ word. followed (taken (number_form 1 MOST_NUMBER) len word.1) (λ number. ended len number.1 (Resync site.0 number.0))))
+rollback_reading len left = followed (taken name_form len left) (λ site. followed (taken target_form len site.1) (λ target. rolled_by target.0 len target.1 site.0))
 
 abbrev pub recover_by : (forward : Bool) → Name → Command
 recover_by true name = RecoverForward name
@@ -143,6 +165,14 @@ fuse_reading len left = followed (taken name_form len left) (λ site. followed (
 -- CRASH site pick
 abbrev pub crash_reading : ℕ → List ℕ → Result Command ℕ
 crash_reading len left = followed (taken name_form len left) (λ site. followed (taken (number_form 0 MOST_PICK) len site.1) (λ pick. ended len pick.1 (Crash site.0 pick.0)))
+
+-- CUT site bytes
+abbrev pub cut_reading : ℕ → List ℕ → Result Command ℕ
+cut_reading len left = followed (taken name_form len left) (λ site. followed (taken (number_form 0 MOST_CUT_BYTES) len site.1) (λ bytes. ended len bytes.1 (Cut site.0 bytes.0)))
+
+-- SWITCH primary secondary
+abbrev pub switch_reading : ℕ → List ℕ → Result Command ℕ
+switch_reading len left = followed (taken name_form len left) (λ primary. followed (taken name_form len primary.1) (λ secondary. ended len secondary.1 (Switch primary.0 secondary.0)))
 
 -- EXTRACT site, and perhaps a number
 abbrev pub extract_reading : ℕ → List ℕ → Result Command ℕ
@@ -173,6 +203,8 @@ command_by word len left behind = if bytes_eq word (codes "CREATE") then create_
     else if bytes_eq word (codes "RECOVER") then recover_reading len behind
     else if bytes_eq word (codes "FUSE") then fuse_reading len behind
     else if bytes_eq word (codes "CRASH") then crash_reading len behind
+    else if bytes_eq word (codes "CUT") then cut_reading len behind
+    else if bytes_eq word (codes "SWITCH") then switch_reading len behind
     else if bytes_eq word (codes "EXTRACT") then extract_reading len behind
     else if bytes_eq word (codes "ZWRITE") then zwrite_reading len behind
     else if bytes_eq word (codes "SHOW") then show_reading len behind
@@ -192,14 +224,18 @@ IsFormed Attach = Unit {0}
 IsFormed (Map name region pattern) = (is_name name ≡ true) × (is_name region ≡ true) × (is_pattern pattern ≡ true)
 IsFormed (SetJournal name region before) = (is_name name ≡ true) × (is_name region ≡ true)
 IsFormed (StartPrimary name) = is_name name ≡ true
+IsFormed (StartSecondary name primary) = (is_name name ≡ true) × (is_name primary ≡ true)
 IsFormed (Run name jobs order) = (is_name name ≡ true) × (length jobs ≡ UPDATERS) × (list_all is_updater order ≡ true) × (list_all (λ own. list_all is_of_size own) jobs ≡ true)
 IsFormed (Stop name) = is_name name ≡ true
 IsFormed (Epoch name) = is_name name ≡ true
 IsFormed (Resync name number) = (is_name name ≡ true) × (1 ≤ number) × (number ≤ MOST_NUMBER)
+IsFormed (Fetchresync name primary) = (is_name name ≡ true) × (is_name primary ≡ true)
 IsFormed (RecoverBackward name) = is_name name ≡ true
 IsFormed (RecoverForward name) = is_name name ≡ true
 IsFormed (Fuse name calls) = (is_name name ≡ true) × (calls ≤ MOST_CALLS)
 IsFormed (Crash name pick) = (is_name name ≡ true) × (pick ≤ MOST_PICK)
+IsFormed (Cut name bytes) = (is_name name ≡ true) × (bytes ≤ MOST_CUT_BYTES)
+IsFormed (Switch primary secondary) = (is_name primary ≡ true) × (is_name secondary ≡ true)
 IsFormed (Extract name None) = is_name name ≡ true
 IsFormed (Extract name (Some n)) = (is_name name ≡ true) × (1 ≤ n) × (n ≤ MOST_NUMBER)
 IsFormed (Zwrite name top) = is_name name ≡ true
@@ -235,13 +271,17 @@ pub data IsOrder : (parts : List (List ℕ)) (command : Command) → Type 0 wher
   map_to : (site region : Name) (pattern : List ℕ) → is_name site ≡ true → is_name region ≡ true → IsPattern pattern → IsOrder (codes "MAP" ∷ site ∷ region ∷ pattern ∷ []) (Map site region pattern)
   set_journal : (site region : Name) (before : Bool) → is_name site ≡ true → is_name region ≡ true → IsOrder (codes "SET" ∷ codes "JOURNAL" ∷ site ∷ region ∷ mode_word before ∷ []) (SetJournal site region before)
   start : (site : Name) → is_name site ≡ true → IsOrder (codes "START" ∷ site ∷ codes "PRIMARY" ∷ []) (StartPrimary site)
+  start_secondary : (site primary : Name) → is_name site ≡ true → is_name primary ≡ true → IsOrder (codes "START" ∷ site ∷ codes "SECONDARY" ∷ codes "OF" ∷ primary ∷ []) (StartSecondary site primary)
   stop : (site : Name) → is_name site ≡ true → IsOrder (codes "STOP" ∷ site ∷ []) (Stop site)
   epoch : (site : Name) → is_name site ≡ true → IsOrder (codes "EPOCH" ∷ site ∷ []) (Epoch site)
   resync : (site : Name) (number : ℕ) → is_name site ≡ true → 1 ≤ number → number ≤ MOST_NUMBER → IsOrder (codes "ROLLBACK" ∷ site ∷ codes "RESYNC" ∷ decimal number ∷ []) (Resync site number)
+  fetchresync : (site primary : Name) → is_name site ≡ true → is_name primary ≡ true → IsOrder (codes "ROLLBACK" ∷ site ∷ codes "FETCHRESYNC" ∷ primary ∷ []) (Fetchresync site primary)
   recover_backward : (site : Name) → is_name site ≡ true → IsOrder (codes "RECOVER" ∷ site ∷ codes "BACKWARD" ∷ []) (RecoverBackward site)
   recover_forward : (site : Name) → is_name site ≡ true → IsOrder (codes "RECOVER" ∷ site ∷ codes "FORWARD" ∷ []) (RecoverForward site)
   fuse : (site : Name) (calls : ℕ) → is_name site ≡ true → calls ≤ MOST_CALLS → IsOrder (codes "FUSE" ∷ site ∷ decimal calls ∷ []) (Fuse site calls)
   crash : (site : Name) (pick : ℕ) → is_name site ≡ true → pick ≤ MOST_PICK → IsOrder (codes "CRASH" ∷ site ∷ decimal pick ∷ []) (Crash site pick)
+  cut : (site : Name) (bytes : ℕ) → is_name site ≡ true → bytes ≤ MOST_CUT_BYTES → IsOrder (codes "CUT" ∷ site ∷ decimal bytes ∷ []) (Cut site bytes)
+  switch : (primary secondary : Name) → is_name primary ≡ true → is_name secondary ≡ true → IsOrder (codes "SWITCH" ∷ primary ∷ secondary ∷ []) (Switch primary secondary)
   extract : (site : Name) → is_name site ≡ true → IsOrder (codes "EXTRACT" ∷ site ∷ []) (Extract site None)
   extract_from : (site : Name) (number : ℕ) → is_name site ≡ true → 1 ≤ number → number ≤ MOST_NUMBER → IsOrder (codes "EXTRACT" ∷ site ∷ decimal number ∷ []) (Extract site (Some number))
   zwrite : (site : Name) → is_name site ≡ true → IsOrder (codes "ZWRITE" ∷ site ∷ []) (Zwrite site None)

@@ -121,3 +121,11 @@ mode_form text = either_form (codes "BEFORE") (codes "NOBEFORE") text
 -- the way in which a site is recovered, and whether that is forward
 abbrev pub way_form : List ℕ → Option Bool
 way_form text = either_form (codes "FORWARD") (codes "BACKWARD") text
+
+-- what a site is opened as, and whether that is a primary
+abbrev pub role_form : List ℕ → Option Bool
+role_form text = either_form (codes "PRIMARY") (codes "SECONDARY") text
+
+-- what a site is rolled back to, and whether that is what it shares with a primary
+abbrev pub target_form : List ℕ → Option Bool
+target_form text = either_form (codes "FETCHRESYNC") (codes "RESYNC") text

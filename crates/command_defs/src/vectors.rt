@@ -3,7 +3,7 @@ ghost use Rattle.std.specs.Prelude.{◌≡◌, ◌∷◌, ◌++◌, [], codes, S
 ghost use Rattle.global_defs.specs.Key.{sub_of};
 ghost use Rattle.global_defs.specs.Jobs as jobs;
 ghost use Rattle.command_defs.specs.Lines.{lines_of};
-ghost use Rattle.command_defs.specs.Commands.{Create, Attach, Map, SetJournal, StartPrimary, Run, Stop, Epoch, Resync, RecoverBackward, RecoverForward, Fuse, Crash, Extract, Zwrite, Show, Print, with_images};
+ghost use Rattle.command_defs.specs.Commands.{Create, Attach, Map, SetJournal, StartPrimary, StartSecondary, Run, Stop, Epoch, Resync, Fetchresync, RecoverBackward, RecoverForward, Fuse, Crash, Cut, Switch, Extract, Zwrite, Show, Print, with_images};
 ghost use Rattle.command_defs.specs.Parts.{trimmed};
 ghost use Rattle.command_defs.specs.Sections.{begun, with_job, transaction_begun, transaction_ended, is_full_job};
 ghost use Rattle.command_defs.specs.Script.{Outside, Within, Skips, Wrong, Goes, Ends, line_reading, lines_reading};
@@ -71,7 +71,7 @@ pub fn commands_hold()
     ensures no_way { line_reading Outside (codes "RECOVER A") ≡ Wrong 10 }
     ensures recover_more { line_reading Outside (codes "RECOVER A BACKWARD B") ≡ Wrong 20 }
     ensures start { line_reading Outside (codes " START  A PRIMARY \r") ≡ Ends (StartPrimary (codes "A")) }
-    ensures role { line_reading Outside (codes "START A SECONDARY OF B") ≡ Wrong 9 }
+    ensures start_more { line_reading Outside (codes "START A PRIMARY X") ≡ Wrong 17 }
     ensures word { line_reading Outside (codes "RUNN A") ≡ Wrong 1 }
     ensures missing { line_reading Outside (codes "STOP  ") ≡ Wrong 5 }
     ensures more { line_reading Outside (codes "STOP A\r\r") ≡ Wrong 6 }
@@ -95,6 +95,53 @@ pub fn commands_hold()
     ensures number { line_reading Outside (codes "EXTRACT A 0") ≡ Wrong 11 }
     ensures node { line_reading Outside (codes "ZWRITE A ^X(\"a b\")") ≡ Ends (Zwrite (codes "A") (Some (record { name = codes "X"; subs = sub_of (codes "a b") ∷ [] }))) }
     ensures behind { line_reading Outside (codes "ZWRITE A ^X(\"a b\") ^Y") ≡ Wrong 20 }
+{}
+
+/// Commands on a primary and its secondaries, and the first bad part of lines that are none.
+pub fn commands_on_secondaries_hold()
+    ensures secondary { line_reading Outside (codes "START B SECONDARY OF A") ≡ Ends (StartSecondary (codes "B") (codes "A")) }
+    ensures secondary_spaced { line_reading Outside (codes "  START  B  SECONDARY  OF  ABCDEFGHIJKLMN9 \r ") ≡ Ends (StartSecondary (codes "B") (codes "ABCDEFGHIJKLMN9")) }
+    ensures secondary_of_itself { line_reading Outside (codes "START A SECONDARY OF A") ≡ Ends (StartSecondary (codes "A") (codes "A")) }
+    ensures no_name { line_reading Outside (codes "START") ≡ Wrong 6 }
+    ensures no_role { line_reading Outside (codes "START B") ≡ Wrong 8 }
+    ensures other_role { line_reading Outside (codes "START B TERTIARY OF A") ≡ Wrong 9 }
+    ensures lower_role { line_reading Outside (codes "START B secondary OF A") ≡ Wrong 9 }
+    ensures no_of { line_reading Outside (codes "START B SECONDARY") ≡ Wrong 18 }
+    ensures other_of { line_reading Outside (codes "START B SECONDARY OFF A") ≡ Wrong 19 }
+    ensures lower_of { line_reading Outside (codes "START B SECONDARY of A") ≡ Wrong 19 }
+    ensures of_left_out { line_reading Outside (codes "START B SECONDARY A") ≡ Wrong 19 }
+    ensures no_primary { line_reading Outside (codes "START B SECONDARY OF") ≡ Wrong 21 }
+    ensures no_primary_spaced { line_reading Outside (codes "START B SECONDARY OF  \r") ≡ Wrong 21 }
+    ensures primary_digit { line_reading Outside (codes "START B SECONDARY OF 1A") ≡ Wrong 22 }
+    ensures primary_long { line_reading Outside (codes "START B SECONDARY OF ABCDEFGHIJKLMN90") ≡ Wrong 22 }
+    ensures secondary_more { line_reading Outside (codes "START B SECONDARY OF A C") ≡ Wrong 24 }
+    ensures primary_of { line_reading Outside (codes "START B PRIMARY OF A") ≡ Wrong 17 }
+    ensures fetchresync { line_reading Outside (codes "ROLLBACK A FETCHRESYNC B") ≡ Ends (Fetchresync (codes "A") (codes "B")) }
+    ensures no_fetched { line_reading Outside (codes "ROLLBACK A FETCHRESYNC") ≡ Wrong 23 }
+    ensures fetched_number { line_reading Outside (codes "ROLLBACK A FETCHRESYNC 5") ≡ Wrong 24 }
+    ensures fetched_more { line_reading Outside (codes "ROLLBACK A FETCHRESYNC B C") ≡ Wrong 26 }
+    ensures lower_fetchresync { line_reading Outside (codes "ROLLBACK A fetchresync B") ≡ Wrong 12 }
+    ensures other_fetchresync { line_reading Outside (codes "ROLLBACK A FETCHRESYNCH B") ≡ Wrong 12 }
+    ensures resync { line_reading Outside (codes "ROLLBACK A RESYNC 5") ≡ Ends (Resync (codes "A") 5) }
+    ensures resync_name { line_reading Outside (codes "ROLLBACK A RESYNC B") ≡ Wrong 19 }
+    ensures cut_at_once { line_reading Outside (codes "CUT B 0") ≡ Ends (Cut (codes "B") 0) }
+    ensures most_cut { line_reading Outside (codes "CUT B 1000000000") ≡ Ends (Cut (codes "B") 1000000000) }
+    ensures above_cut { line_reading Outside (codes "CUT B 1000000001") ≡ Wrong 7 }
+    ensures cut_leading { line_reading Outside (codes "CUT B 01") ≡ Wrong 7 }
+    ensures cut_sign { line_reading Outside (codes "CUT B -1") ≡ Wrong 7 }
+    ensures cut_unnumbered { line_reading Outside (codes "CUT B") ≡ Wrong 6 }
+    ensures cut_unnamed { line_reading Outside (codes "CUT") ≡ Wrong 4 }
+    ensures cut_number { line_reading Outside (codes "CUT 40") ≡ Wrong 5 }
+    ensures cut_more { line_reading Outside (codes "CUT B 40 40") ≡ Wrong 10 }
+    ensures lower_cut { line_reading Outside (codes "cut B 40") ≡ Wrong 1 }
+    ensures switch { line_reading Outside (codes "SWITCH A B") ≡ Ends (Switch (codes "A") (codes "B")) }
+    ensures switch_with_itself { line_reading Outside (codes "SWITCH A A") ≡ Ends (Switch (codes "A") (codes "A")) }
+    ensures switch_none { line_reading Outside (codes "SWITCH") ≡ Wrong 7 }
+    ensures switch_one { line_reading Outside (codes "SWITCH A") ≡ Wrong 9 }
+    ensures switch_number { line_reading Outside (codes "SWITCH A 1") ≡ Wrong 10 }
+    ensures switch_from_number { line_reading Outside (codes "SWITCH 1 A") ≡ Wrong 8 }
+    ensures switch_more { line_reading Outside (codes "SWITCH A B C") ≡ Wrong 12 }
+    ensures lower_switch { line_reading Outside (codes "switch A B") ≡ Wrong 1 }
 {}
 
 /// Lines of sections, and the first bad part of lines that are none.

@@ -5,6 +5,7 @@ use read_ahead::ReadAhead;
 use repl_disk::{Disk, MemDisk};
 use repl_host::HostDisk;
 use repl_io::{StdSink, StdSource};
+use repl_link::MemLinker;
 use repl_words::{Words, WordsError};
 use site_runner::{Status, run};
 use std::io::BufReader;
@@ -64,6 +65,7 @@ fn run_over<D: Disk>(rt: &HostRuntime, words: &[String], disks: Option<Vec<D>>) 
         &mut StdSource::new(reader),
         &mut StdSink::new(io::writer(rt)),
         &mut disks,
+        &mut MemLinker::new(rt.alloc()),
     )
 }
 

@@ -12,6 +12,8 @@ mod extracts;
 #[cfg(test)]
 mod faults;
 #[cfg(test)]
+mod followers;
+#[cfg(test)]
 mod jobs;
 #[cfg(test)]
 mod openings;

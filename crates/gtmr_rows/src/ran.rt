@@ -1,6 +1,7 @@
 // Runs of scripts over eight disks in memory.
 use repl_disk::MemDisk;
 use repl_io::{MemSink, MemSource};
+use repl_link::MemLinker;
 use site_runner::{Status, run};
 use std::alloc::Global;
 use std::process::Abort;
@@ -49,7 +50,14 @@ pub fn ran(
     let sink = MemSink::new(alloc, bad_writes, most.max(1), 16_384);
     let mut sink = sink.expect(rt, "memory");
     let mut disks = disks(rt, alloc);
-    let status = run(alloc, &given, &mut source, &mut sink, &mut disks);
+    let status = run(
+        alloc,
+        &given,
+        &mut source,
+        &mut sink,
+        &mut disks,
+        &mut MemLinker::new(alloc),
+    );
     (status, sink.bytes().to_vec(alloc).expect(rt, "memory"))
 }
 
@@ -65,7 +73,14 @@ pub fn ran_on(
     let mut source = MemSource::new(script, Vec::new(alloc));
     let sink = MemSink::new(alloc, Vec::new(alloc), 4096, 4096);
     let mut sink = sink.expect(rt, "memory");
-    let status = run(alloc, &words, &mut source, &mut sink, disks);
+    let status = run(
+        alloc,
+        &words,
+        &mut source,
+        &mut sink,
+        disks,
+        &mut MemLinker::new(alloc),
+    );
     (status, sink.bytes().to_vec(alloc).expect(rt, "memory"))
 }
 

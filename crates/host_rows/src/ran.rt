@@ -1,6 +1,7 @@
 // Runs of scripts over the disks of a folder.
 use repl_host::HostDisk;
 use repl_io::{MemSink, MemSource};
+use repl_link::MemLinker;
 use site_runner::{Status, run};
 use std::process::Abort;
 
@@ -40,7 +41,14 @@ pub fn prints_over(
     let mut source = MemSource::new(script, Vec::new(rt.alloc()));
     let sink = MemSink::new(rt.alloc(), Vec::new(rt.alloc()), 4096, 4096);
     let mut sink = sink.expect(test, "memory");
-    let status = run(rt.alloc(), &words, &mut source, &mut sink, disks);
+    let status = run(
+        rt.alloc(),
+        &words,
+        &mut source,
+        &mut sink,
+        disks,
+        &mut MemLinker::new(rt.alloc()),
+    );
     assert!(test; matches!(status, Status::Ok));
     assert_eq!(test; sink.bytes(), want.as_bytes());
 }

@@ -4,6 +4,7 @@ ghost use Rattle.std.specs.Prelude.{◌<◌};
 use super::random_table::{GRAMMAR, TABLE};
 use repl_disk::MemDisk;
 use repl_io::{MemSink, MemSource};
+use repl_link::MemLinker;
 use site_runner::{Status, run};
 use std::alloc::Global;
 use std::process::Abort;
@@ -140,7 +141,14 @@ fn ran(rt: &impl Abort, alloc: Global, script: &[u8]) -> (Status, Vec<u8>) {
     let mut source = MemSource::new(script, Vec::new(alloc));
     let sink = MemSink::new(alloc, Vec::new(alloc), 4096, 16_384);
     let mut sink = sink.expect(rt, "memory");
-    let status = run(alloc, &words, &mut source, &mut sink, &mut disks);
+    let status = run(
+        alloc,
+        &words,
+        &mut source,
+        &mut sink,
+        &mut disks,
+        &mut MemLinker::new(alloc),
+    );
     (status, sink.bytes().to_vec(alloc).expect(rt, "memory"))
 }
 

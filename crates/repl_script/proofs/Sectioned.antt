@@ -5,8 +5,6 @@ use Rattle.std.specs.declared.result.Result.{Result}
 use Rattle.std.specs.declared.result.Result.TheVariants.{Ok, Err}
 use Rattle.std.proofs.lemmas.List.Sums.{sum_by-cons}
 use Rattle.global_defs.specs.Jobs.{Statement, Job}
-use Rattle.script_defs.specs.Parts as texts
-use Rattle.gvn_text.specs.Reads as tells
 use Rattle.command_defs.specs.Commands.{Name, Run, IsFormed, IsWhole}
 use Rattle.command_defs.specs.Parts.{is_name}
 use Rattle.command_defs.specs.Sections.{Section, jobs_of, last_job, longer, IsSound}

@@ -32,6 +32,11 @@ pub enum Command {
     StartPrimary {
         site: Bytes,
     },
+    /// Opens a site as a secondary of that primary, whose entries it follows from then on (GT.M: MUPIP REPLICATE -RECEIVER -START).
+    StartSecondary {
+        site: Bytes,
+        primary: Bytes,
+    },
     /// Decides jobs at a primary: those of 64 updaters, of which the last ones that have none may be left out, and the updaters in the
     /// order of their jobs' first lines, one byte a job.
     Run {
@@ -53,6 +58,11 @@ pub enum Command {
         site: Bytes,
         number: u64,
     },
+    /// Rolls a site back to what it shares with that primary (GT.M: MUPIP JOURNAL -ROLLBACK -BACKWARD -FETCHRESYNC -LOSTTRANS).
+    Fetchresync {
+        site: Bytes,
+        primary: Bytes,
+    },
     /// Recovers a site from its journals and closes it again (GT.M: MUPIP JOURNAL -RECOVER -BACKWARD).
     RecoverBackward {
         site: Bytes,
@@ -70,6 +80,17 @@ pub enum Command {
     Crash {
         site: Bytes,
         pick: u64,
+    },
+    /// Has one more connection of the site as a secondary cut after so many bytes from its primary, at most 1,000,000,000. Each
+    /// connection uses up the first such order.
+    Cut {
+        site: Bytes,
+        bytes: u64,
+    },
+    /// Closes a primary and its secondary, and opens them in each other's place.
+    Switch {
+        primary: Bytes,
+        secondary: Bytes,
     },
     /// Shows the entries from that number on, from 1 to 2 ^ 40, or all.
     Extract {

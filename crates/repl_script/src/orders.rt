@@ -1,13 +1,13 @@
 // Lines between commands.
 ghost use Rattle.std.specs.Prelude.{◌≡◌, true, IfOk};
 ghost use Rattle.command_defs.specs.Parts.{is_name};
-ghost use Rattle.command_defs.specs.Commands.{IsFormed, IsWhole, create_reading, attach_reading, map_reading, set_reading, start_reading, stop_reading, epoch_reading, rollback_reading, recover_reading, fuse_reading, crash_reading, extract_reading, zwrite_reading, show_reading, type_reading, command_by, run_reading};
+ghost use Rattle.command_defs.specs.Commands.{IsFormed, IsWhole, create_reading, attach_reading, map_reading, set_reading, start_reading, stop_reading, epoch_reading, rollback_reading, recover_reading, fuse_reading, crash_reading, cut_reading, switch_reading, extract_reading, zwrite_reading, show_reading, type_reading, command_by, run_reading};
 ghost use Rattle.repl_script.specs.Commands.{command_value};
 ghost use Rattle.repl_script.specs.Reads.{Reads};
 
 use super::command::Command;
 use super::fault::{Fault, bad};
-use super::parts::{ended, file, mode, name, node, number, pattern, way, word};
+use super::parts::{ended, file, mode, name, node, number, pattern, role, target, way, word};
 use super::regions::read_regions;
 use global_defs::limits::MOST_CALLS;
 use gvn_key::Bytes;
@@ -15,6 +15,9 @@ use std::alloc::Global;
 
 /// The greatest pick that CRASH takes.
 const MOST_PICK: u64 = 4_294_967_295;
+
+/// The greatest number of bytes that CUT takes.
+const MOST_CUT_BYTES: u64 = 1_000_000_000;
 
 /// The greatest number that EXTRACT and ROLLBACK take.
 const MOST_NUMBER: u64 = global_defs::limits::NUMBERS_END;
@@ -81,10 +84,18 @@ fn read_start(alloc: Global, len: u16, left: &[u8]) -> Result<Command, Fault>
     ensures formed { IfOk result (λ command. IsFormed (command_value command) × IsWhole (command_value command)) }
 {
     let site = name(len, left)?;
-    let role = word(b"PRIMARY", len, site.behind)?;
-    ended(len, role.behind)?;
+    let (is_primary, behind) = role(len, site.behind)?;
+    if is_primary {
+        ended(len, behind)?;
+        let site = Bytes::of(alloc, site.part)?;
+        return Ok(Command::StartPrimary { site });
+    }
+    let of = word(b"OF", len, behind)?;
+    let primary = name(len, of.behind)?;
+    ended(len, primary.behind)?;
     let site = Bytes::of(alloc, site.part)?;
-    Ok(Command::StartPrimary { site })
+    let primary = Bytes::of(alloc, primary.part)?;
+    Ok(Command::StartSecondary { site, primary })
 }
 
 fn read_stop(alloc: Global, len: u16, left: &[u8]) -> Result<Command, Fault>
@@ -112,8 +123,15 @@ fn read_rollback(alloc: Global, len: u16, left: &[u8]) -> Result<Command, Fault>
     ensures formed { IfOk result (λ command. IsFormed (command_value command) × IsWhole (command_value command)) }
 {
     let site = name(len, left)?;
-    let resync = word(b"RESYNC", len, site.behind)?;
-    let (number, behind) = number(1, MOST_NUMBER, len, resync.behind)?;
+    let (shares, behind) = target(len, site.behind)?;
+    if shares {
+        let primary = name(len, behind)?;
+        ended(len, primary.behind)?;
+        let site = Bytes::of(alloc, site.part)?;
+        let primary = Bytes::of(alloc, primary.part)?;
+        return Ok(Command::Fetchresync { site, primary });
+    }
+    let (number, behind) = number(1, MOST_NUMBER, len, behind)?;
     ended(len, behind)?;
     let site = Bytes::of(alloc, site.part)?;
     Ok(Command::Resync { site, number })
@@ -154,6 +172,29 @@ fn read_crash(alloc: Global, len: u16, left: &[u8]) -> Result<Command, Fault>
     ended(len, behind)?;
     let site = Bytes::of(alloc, site.part)?;
     Ok(Command::Crash { site, pick })
+}
+
+fn read_cut(alloc: Global, len: u16, left: &[u8]) -> Result<Command, Fault>
+    ensures reading { Reads command_value (cut_reading len left.now) result }
+    ensures formed { IfOk result (λ command. IsFormed (command_value command) × IsWhole (command_value command)) }
+{
+    let site = name(len, left)?;
+    let (bytes, behind) = number(0, MOST_CUT_BYTES, len, site.behind)?;
+    ended(len, behind)?;
+    let site = Bytes::of(alloc, site.part)?;
+    Ok(Command::Cut { site, bytes })
+}
+
+fn read_switch(alloc: Global, len: u16, left: &[u8]) -> Result<Command, Fault>
+    ensures reading { Reads command_value (switch_reading len left.now) result }
+    ensures formed { IfOk result (λ command. IsFormed (command_value command) × IsWhole (command_value command)) }
+{
+    let primary = name(len, left)?;
+    let secondary = name(len, primary.behind)?;
+    ended(len, secondary.behind)?;
+    let primary = Bytes::of(alloc, primary.part)?;
+    let secondary = Bytes::of(alloc, secondary.part)?;
+    Ok(Command::Switch { primary, secondary })
 }
 
 fn read_extract(alloc: Global, len: u16, left: &[u8]) -> Result<Command, Fault>
@@ -262,6 +303,12 @@ pub fn read_command(
     }
     if word == b"CRASH".as_slice() {
         return read_crash(alloc, len, behind);
+    }
+    if word == b"CUT".as_slice() {
+        return read_cut(alloc, len, behind);
+    }
+    if word == b"SWITCH".as_slice() {
+        return read_switch(alloc, len, behind);
     }
     if word == b"EXTRACT".as_slice() {
         return read_extract(alloc, len, behind);

@@ -1,7 +1,7 @@
 // The parts of a line, from the front.
 ghost use Rattle.std.specs.Prelude.{◌≡◌, ◌≤◌, true, length, take, drop, IfOk};
 ghost use Rattle.script_defs.specs.Parts.{word_end, without_spaces};
-ghost use Rattle.command_defs.specs.Parts.{before_spaces, before_return, trimmed, taken, ended, word_form, is_name, name_form, pattern_form, number_form, node_form, either_form, file_form, mode_form, way_form};
+ghost use Rattle.command_defs.specs.Parts.{before_spaces, before_return, trimmed, taken, ended, word_form, is_name, name_form, pattern_form, number_form, node_form, either_form, file_form, mode_form, way_form, role_form, target_form};
 ghost use Rattle.global_defs.specs.Pattern.{is_pattern};
 ghost use Rattle.repl_script.specs.Reads.{Reads};
 
@@ -165,6 +165,20 @@ pub fn way(len: u16, left: &[u8]) -> Result<(bool, &[u8]), Fault>
     ensures { Reads (λ p. (p.0, p.1.now)) (taken way_form len left.now) result }
 {
     either(b"FORWARD", b"BACKWARD", len, left)
+}
+
+/// The word for what a site is opened as, and whether that is a primary.
+pub fn role(len: u16, left: &[u8]) -> Result<(bool, &[u8]), Fault>
+    ensures { Reads (λ p. (p.0, p.1.now)) (taken role_form len left.now) result }
+{
+    either(b"PRIMARY", b"SECONDARY", len, left)
+}
+
+/// The word for what a site is rolled back to, and whether that is what it shares with a primary.
+pub fn target(len: u16, left: &[u8]) -> Result<(bool, &[u8]), Fault>
+    ensures { Reads (λ p. (p.0, p.1.now)) (taken target_form len left.now) result }
+{
+    either(b"FETCHRESYNC", b"RESYNC", len, left)
 }
 
 /// A number from the least to the greatest one.

@@ -55,7 +55,7 @@ both-at xs ys rs qs first second (suc i) low also same = inr (both xs ys rs qs f
 abbrev Of : Sequence → List Reign → History
 Of xs rs = record { length = length xs; reigns = rs }
 
-of-sequences : (xs ys : Sequence) (rs qs : List Reign) → HasStamps rs xs → HasStamps qs ys → Agree xs ys → (t : ℕ) → IsCommonOf t (Of xs rs) (Of ys qs) → IsCommon t xs ys
+pub of-sequences : (xs ys : Sequence) (rs qs : List Reign) → HasStamps rs xs → HasStamps qs ys → Agree xs ys → (t : ℕ) → IsCommonOf t (Of xs rs) (Of ys qs) → IsCommon t xs ys
 of-sequences xs ys rs qs first second agree t c = record {
   in_first = c.in_first;
   in_second = c.in_second;
@@ -72,7 +72,7 @@ greatest-of xs ys rs qs first second agree t c n past low also have =
     c.no_more (omega arith) (omega arith)
     (sym (take-take (t + 1) n xs (omega arith)) ∙ ap (λ (l : Sequence). take (t + 1) l) equal ∙ take-take (t + 1) n ys (omega arith))
 
-of-histories : (xs ys : Sequence) (rs qs : List Reign) → HasStamps rs xs → HasStamps qs ys → Agree xs ys → (t : ℕ) → IsCommon t xs ys → IsCommonOf t (Of xs rs) (Of ys qs)
+pub of-histories : (xs ys : Sequence) (rs qs : List Reign) → HasStamps rs xs → HasStamps qs ys → Agree xs ys → (t : ℕ) → IsCommon t xs ys → IsCommonOf t (Of xs rs) (Of ys qs)
 of-histories xs ys rs qs first second agree t c = record {
   in_first = c.in_first;
   in_second = c.in_second;
@@ -81,12 +81,12 @@ of-histories xs ys rs qs first second agree t c = record {
 }
 
 -- a sequence shares all it has exactly with those that begin with it
-begins : (xs ys : Sequence) → IsCommon (length ys) xs ys → IsPrefix ys xs
+pub begins : (xs ys : Sequence) → IsCommon (length ys) xs ys → IsPrefix ys xs
 begins xs ys c =
     let all : take (length ys) xs ≡ ys = c.same ∙ take_all (length ys) ys (omega arith) in
     subst (λ (l : Sequence). IsPrefix l xs) all (lists.front (length ys) xs)
 
-shares : (xs ys : Sequence) → IsPrefix ys xs → IsCommon (length ys) xs ys
+pub shares : (xs ys : Sequence) → IsPrefix ys xs → IsCommon (length ys) xs ys
 shares xs ys p = record {
   in_first = lists.prefix-length ys xs p;
   in_second = omega arith;

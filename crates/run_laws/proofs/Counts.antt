@@ -1,7 +1,8 @@
 -- Counts of faults, and answers that tell of one.
 use Rattle.std.proofs.Common.{List, [], ◌∷◌, ℕ, sym, subst, arith}
 use Rattle.std.specs.List.{AllByRecursion}
-use Rattle.command_defs.specs.Commands.{Command, IsFormed}
+use Rattle.command_defs.specs.Commands.{Command}
+use Rattle.world_laws.specs.Fed.{KeepsFit}
 use Rattle.world_defs.specs.World.{World}
 use Rattle.world_defs.specs.Answers.{Answer}
 use Rattle.world_defs.specs.Step.{Step, CutOff}
@@ -14,7 +15,7 @@ use Rattle.world_laws.proofs.Lasts.{Lasts, CutsOff}
 use Rattle.world_laws.proofs.RowLaws.{step_holds, cut_off_holds}
 
 pub fell-step : (w m : World) (c : Command) (answers : List Answer) (text : List ℕ) → Step w c answers m text → NoCountFell w m
-fell-step w m c answers text h = along_each (Lasts (IsFormed c) (HasNotDropped c answers)) HasNotFallen (λ x y l. l.later) w.places m.places (step_holds w m c answers text h).lasts
+fell-step w m c answers text h = along_each (Lasts (KeepsFit w c) (HasNotDropped c answers)) HasNotFallen (λ x y l. l.later) w.places m.places (step_holds w m c answers text h).lasts
 
 pub told-step : (w m : World) (c : Command) (answers : List Answer) (text : List ℕ) → Step w c answers m text → NoCountRose w m → AllByRecursion TellsNoFault answers
 told-step w m c answers text h calm = (step_holds w m c answers text h).told calm
@@ -37,4 +38,4 @@ told-runs w m (c ∷ cs) text h calm =
 -- a command that was cut off
 
 pub fell-cut : (w m : World) (c : Command) → CutOff w c m → NoCountFell w m
-fell-cut w m c h = along_each (CutsOff (IsFormed c)) HasNotFallen (λ x y l. l.later) w.places m.places (cut_off_holds w m c h)
+fell-cut w m c h = along_each (CutsOff (KeepsFit w c)) HasNotFallen (λ x y l. l.later) w.places m.places (cut_off_holds w m c h)

@@ -20,8 +20,8 @@ use Rattle.world_defs.specs.rows.Rollback.{MayRollBackTo, RollsBack, stay_of, ro
 use Rattle.world_laws.specs.Entries.{IsPlaceOf}
 use Rattle.world_laws.proofs.EntriesStay.{only_one}
 use Rattle.run_laws.specs.Lost.{stays_at, lost_generation, dropped_text, IsKeptOrWritten, KeepsOrWrites, WritesLostThere}
-use Rattle.run_laws.proofs.Cut.{left_there}
-use Rattle.run_laws.proofs.Owns.{owns, makes_here}
+use Rattle.run_laws.proofs.Cut.{left_beside}
+use Rattle.run_laws.proofs.Owns.{owns_beside, makes_beside, backs}
 
 -- the second of two files behind others
 at_seam : (ls : List (List ℕ)) (file : List ℕ) (n : ℕ) → length ls ≡ n → get_or (ls ++ file ∷ [] ∷ []) n [] ≡ file
@@ -66,7 +66,7 @@ written number text p q h t = record {
 
 pub rollback-lost : (w m : World) (name : Name) (number : ℕ) (text : List ℕ) (p q : Place) → Step w (Resync name number) (Done ∷ []) m text → IsPlaceOf name w m p q → WritesLostThere number text p q
 rollback-lost w m name number text p q h at =
-    written number text p q (makes_here (row_at (rollback number) p) w m Done text at.number p q (owns (rollback number) w m name Done text at.number p at.named at.before h) at.before at.behind)
+    written number text p q (makes_beside (row_at (rollback number) p) (backs p) w m Done text at.number p q (owns_beside (rollback number) (λ i x. backs x) w m name Done text at.number p at.named at.before h) at.before at.behind)
 
 -- where it was not done
 
@@ -80,12 +80,12 @@ kept_or_written number broken c o (inr (inr (inr closed))) =
 
 pub rollback-fault : (w m : World) (name : Name) (number k : ℕ) (text : List ℕ) (p q : Place) → Step w (Resync name number) (DiskFault k ∷ []) m text → IsPlaceOf name w m p q → KeepsOrWrites number p q
 rollback-fault w m name number k text p q h at t o a =
-    let f = (makes_here (row_at (rollback number) p) w m (DiskFault k) text at.number p q (owns (rollback number) w m name (DiskFault k) text at.number p at.named at.before h) at.before at.behind).1 in
+    let f = (makes_beside (row_at (rollback number) p) (backs p) w m (DiskFault k) text at.number p q (owns_beside (rollback number) (λ i x. backs x) w m name (DiskFault k) text at.number p at.named at.before h) at.before at.behind).1 in
     let c = f.known.outcomes t o a in
     (c.0, c.1, kept_or_written number p.left.broken c.0 o c.2)
 
 pub rollback-cut_off : (w m : World) (name : Name) (number : ℕ) (p q : Place) → CutOff w (Resync name number) m → IsPlaceOf name w m p q → KeepsOrWrites number p q
-rollback-cut_off w m name number p q h at t o a = elim ((left_there (rollback number) w m name p q at h).outcomes t o a) [
+rollback-cut_off w m name number p q h at t o a = elim ((left_beside (rollback number) (λ i x. backs x) w m name p q at h).outcomes t o a) [
   | inl old ↦ (o, old, inl refl)
   | inr new ↦ (new.0, new.1, kept_or_written number p.left.broken new.0 o new.2)
 ]

@@ -17,7 +17,7 @@ use Rattle.world_laws.specs.Entries.{IsPlaceOf}
 use Rattle.world_laws.proofs.EntriesStay.{only_one}
 use Rattle.world_laws.proofs.LastEpochs.{has-marked}
 use Rattle.run_laws.specs.Epochs.{EndsInEpochs}
-use Rattle.run_laws.proofs.Owns.{owns, makes_here}
+use Rattle.run_laws.proofs.Owns.{owns, owns_beside, makes_here, makes_beside, backs}
 
 -- there is no outcome but with the epochs
 marks : (site : Option Site) (c : Contents) (p q : Place) → Stays site (marked c) p q → EndsInEpochs q
@@ -45,5 +45,5 @@ forward-marks w m name text p q h at = recovers-marks true w m text at.number p 
 
 pub rollback-marks : (w m : World) (name : Name) (number : ℕ) (text : List ℕ) (p q : Place) → Step w (Resync name number) (Done ∷ []) m text → IsPlaceOf name w m p q → EndsInEpochs q
 rollback-marks w m name number text p q h at =
-    let d : RollsBack number p q = (makes_here (row_at (rollback number) p) w m Done text at.number p q (owns (rollback number) w m name Done text at.number p at.named at.before h) at.before at.behind).1 in
+    let d : RollsBack number p q = (makes_beside (row_at (rollback number) p) (backs p) w m Done text at.number p q (owns_beside (rollback number) (λ i x. backs x) w m name Done text at.number p at.named at.before h) at.before at.behind).1 in
     marks _ _ p q d.becomes

@@ -24,7 +24,7 @@ use Rattle.world_defs.specs.rows.Start.{start}
 use Rattle.world_defs.specs.rows.Stop.{stop}
 use Rattle.world_laws.specs.Entries.{IsPlaceOf}
 use Rattle.run_laws.specs.Needs.{BytesHave, NoneNeeds, NeedsFirst, NeedsFirstForAll, IsTiedApart, all_of, showing}
-use Rattle.run_laws.proofs.Owns.{owns, makes_here}
+use Rattle.run_laws.proofs.Owns.{owns, owns_beside, makes_here, makes_beside, backs}
 use Rattle.world_laws.proofs.Bare.{slice_inside as region_there}
 
 shown_at : (ps : List Place) (i : ℕ) (p : Place) → AllByRecursion IsShown ps → slice_get ps i ≡ Some p → IsShown p
@@ -65,13 +65,13 @@ recover-refused w m name region text p q shown h at =
 
 pub rollback-done : (w m : World) (name : Name) (number : ℕ) (text : List ℕ) (p q : Place) → AreShown w → Step w (Resync name number) (Done ∷ []) m text → IsPlaceOf name w m p q → NoneNeeds (stay number) p
 rollback-done w m name number text p q shown h at =
-    let here = makes_here (row_at (rollback number) p) w m Done text at.number p q (owns (rollback number) w m name Done text at.number p at.named at.before h) at.before at.behind in
+    let here = makes_beside (row_at (rollback number) p) (backs p) w m Done text at.number p q (owns_beside (rollback number) (λ i x. backs x) w m name Done text at.number p at.named at.before h) at.before at.behind in
     bytes_have p _ _ (shown_at w.places at.number p shown at.before) here.3 (λ files k. (k.0, k.1, k.2, k.3, k.4.1))
 
 pub rollback-refused : (w m : World) (name region : Name) (number g : ℕ) (text : List ℕ) (p q : Place) → AreShown w → Step w (Resync name number) (Refused (record { site = name; cause = NoBefore region g }) ∷ []) m text → IsPlaceOf name w m p q → NeedsFirst (stay number) region g p
 rollback-refused w m name region number g text p q shown h at =
     let no : Refusal = record { site = name; cause = NoBefore region g } in
-    let here = makes_here (row_at (rollback number) p) w m (Refused no) text at.number p q (owns (rollback number) w m name (Refused no) text at.number p at.named at.before h) at.before at.behind in
+    let here = makes_beside (row_at (rollback number) p) (backs p) w m (Refused no) text at.number p q (owns_beside (rollback number) (λ i x. backs x) w m name (Refused no) text at.number p at.named at.before h) at.before at.behind in
     bytes_have p _ _ (shown_at w.places at.number p shown at.before) here.2 (λ files k. k)
 
 -- behind a command that closed the site
@@ -100,7 +100,7 @@ forward-closed w m name text p q h shown at =
 
 pub rollback-closed : (w m : World) (name : Name) (number : ℕ) (text : List ℕ) (p q : Place) → Step w (Resync name number) (Done ∷ []) m text → AreShown m → IsPlaceOf name w m p q → NoneNeeds all_of q
 rollback-closed w m name number text p q h shown at =
-    let d : RollsBack number p q = (makes_here (row_at (rollback number) p) w m Done text at.number p q (owns (rollback number) w m name Done text at.number p at.named at.before h) at.before at.behind).1 in
+    let d : RollsBack number p q = (makes_beside (row_at (rollback number) p) (backs p) w m Done text at.number p q (owns_beside (rollback number) (λ i x. backs x) w m name Done text at.number p at.named at.before h) at.before at.behind).1 in
     closed m.places at.number q shown at.behind d.unneeding
 
 pub set-closed : (w m : World) (name region : Name) (before : Bool) (text : List ℕ) (p q : Place) → Step w (SetJournal name region before) (Done ∷ []) m text → AreShown m → IsPlaceOf name w m p q → IsWithoutNeed p → NoneNeeds all_of q

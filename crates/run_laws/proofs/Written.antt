@@ -1,5 +1,5 @@
 -- What a START writes down.
-use Rattle.std.proofs.Common.{◌≡◌, ℕ, List, [], ◌∷◌, Option, Some, None, slice_get, IsTrue, refl, sym, ◌∙◌, ap, subst, inl, inr}
+use Rattle.std.proofs.Common.{◌≡◌, ℕ, Bool, true, false, List, [], ◌∷◌, Option, Some, None, slice_get, IsTrue, refl, sym, ◌∙◌, ap, subst, inl, inr}
 use Rattle.std.specs.Prelude.{IfSome}
 use Rattle.global_defs.specs.Jobs.{Job}
 use Rattle.global_defs.specs.Serial.{Turn}
@@ -9,19 +9,22 @@ use Rattle.site_defs.specs.Contents.{Contents, Standing}
 use Rattle.site_defs.specs.Fronts.{turn_of}
 use Rattle.site_defs.specs.Lists.{Among}
 use Rattle.site_defs.specs.Opening.{opened, with_reign}
-use Rattle.world_defs.specs.World.{State, Down, Failed, Site, Place, World, CoversSo, AmongCoveredSo, Settled, is_site_named, name_on, place_of}
-use Rattle.world_defs.specs.Answers.{Section, Done, Ran}
+use Rattle.world_defs.specs.World.{State, Down, Following, Failed, Site, Place, World, CoversSo, AmongCoveredSo, Settled, is_site_named, is_follower_on, name_on, place_of}
+use Rattle.world_defs.specs.Answers.{Done, Ran}
+use Rattle.world_defs.specs.Sections as sections
+use Rattle.world_defs.specs.Sections.{End, At, LinkCut, RollbackFirst, Section}
 use Rattle.world_defs.specs.Changes.{in_new_state}
 use Rattle.world_defs.specs.Meaning.{apart, row_at}
 use Rattle.world_defs.specs.Step.{One, Step}
 use Rattle.world_defs.specs.rows.Crash.{Crashes, standing_now, crash}
 use Rattle.world_defs.specs.rows.Run as rows
-use Rattle.world_defs.specs.rows.Run.{RunsTo, StandWithin, one_further, turn_on, run}
+use Rattle.world_defs.specs.rows.Feed.{Takes, EndsAs, IsFed, is_whole}
+use Rattle.world_defs.specs.rows.Run.{RunsTo, StandWithin, one_further, run_to, turn_on, feeding, run}
 use Rattle.world_defs.specs.rows.Start.{StartsPrimary, start}
 use Rattle.world_laws.specs.Entries.{KeepsEntriesOf, HasNotDropped, turn_there, IsPlaceOf}
 use Rattle.run_laws.specs.Leftovers.{WritesDown, WritesOneOf, turn_further, WritesWhatWasLeft}
 use Rattle.world_laws.proofs.Alongs.{along_finds}
-use Rattle.run_laws.proofs.Owns.{NamedAlike, owns, makes_here, found_again}
+use Rattle.run_laws.proofs.Owns.{NamedAlike, kept_alike, owns, owns_beside, makes_here, makes_beside, found_again, found_beside}
 use Rattle.run_laws.proofs.Stays.{keeps-step}
 
 -- a site keeps its name in each state
@@ -87,6 +90,26 @@ crashed-written w u m name pick text rest p q h k at = starts_behind p middle.0 
     started : StartsPrimary (name_on middle.0.site) middle.0 q
     started = (makes_here (row_at start middle.0) u m Done rest at.number middle.0 q (owns start u m name Done rest at.number middle.0 found middle.1 k) middle.1 at.behind).1
 
+-- a follower keeps its name
+
+takes_alike : (name : Name) (told : Bool) (from : Contents) (n : ℕ) (p q : Place) → Takes told from n p.site p q → NamedAlike name p q
+takes_alike name told from n p q (inl k) = ap (is_site_named name) k.1.site
+takes_alike name told from n p q (inr d) = ap (is_site_named name) d.becomes.site
+
+end_alike : (name : Name) (told : Bool) (own : Name) (from : Contents) (whole : Bool) (end : End) (p q : Place) → EndsAs told own from whole end p q → NamedAlike name p q
+end_alike name told own from whole (At n) p q (inl d) = ap (is_site_named name) d.takes.becomes.site ∙ alike_in name (Following own) p.site
+end_alike name told own from whole (At n) p q (inr d) = takes_alike name told from n p q d.1
+end_alike name told own from whole (LinkCut n) p q d = takes_alike name told from n p q d
+end_alike name told own from whole (RollbackFirst number) p q d = takes_alike name told from d.0 p q d.1
+end_alike name told own from whole (sections.BadFrame offset) p q d = takes_alike name told from d.0 p q d.1
+end_alike name told own from whole (sections.DiskFault k) p q d = ap (is_site_named name) d.site ∙ alike_in name (Failed k) p.site
+
+fed_alike : (name : Name) (told : Bool) (own : Name) (from : Contents) (whole follows : Bool) (end : Option End) (p q : Place) → IsFed told own from whole follows end p q → NamedAlike name p q
+fed_alike name told own from whole true (Some end) p q d = end_alike name told own from whole end p q d
+fed_alike name told own from whole true None p q d = absurd d
+fed_alike name told own from whole false None p q d = kept_alike name p q d
+fed_alike name told own from whole false (Some end) p q d = absurd d
+
 -- a section that a fault ended
 
 -- what it left behind
@@ -96,8 +119,8 @@ record Leaves (s : Section) (jobs : List (List Job)) (order : List ℕ) (p c : P
   site : c.site ≡ in_new_state (Failed fault) p.site
   within : IsTrue p.told → StandWithin p.now (turn_there s jobs p).sequence (turn_further s jobs order p).sequence c.standings
 
-ends : (name : Name) (jobs : List (List Job)) (order : List ℕ) (s : Section) (fault : ℕ) (p c : Place) → s.fault ≡ Some fault → rows.Runs name jobs order s p c → Leaves s jobs order p c
-ends name jobs order s fault p c e r = record {
+ends : (w : World) (name : Name) (jobs : List (List Job)) (order : List ℕ) (s : Section) (fault : ℕ) (p c : Place) → s.fault ≡ Some fault → rows.Runs w name jobs order s p c → Leaves s jobs order p c
+ends w name jobs order s fault p c e r = record {
   told = fails.known.told;
   fault = fault;
   site = fails.site;
@@ -136,14 +159,16 @@ faulted-written w v u m name jobs order s fault pick told text rest p q h e k l 
     middle : (c : Place) × (slice_get v.places at.number ≡ Some c)
     middle = along_finds (KeepsEntriesOf (HasNotDropped (Crash name pick) (Done ∷ []))) at.number last.0 v.places u.places (keeps-step v u (Crash name pick) (Done ∷ []) text k) last.1
 
-    one : One at.number (row_at (run jobs order) p) apart (Ran s) w v told
-    one = owns (run jobs order) w v name (Ran s) told at.number p at.named at.before h
+    one : One at.number (row_at (run w jobs order) p) (feeding w jobs order (name_on p.site) p) (Ran s) w v told
+    one = owns_beside (run w jobs order) (λ i x. feeding w jobs order (name_on x.site) x) w v name (Ran s) told at.number p at.named at.before h
 
     left : Leaves s jobs order p middle.0
-    left = ends (name_on p.site) jobs order s fault p middle.0 e (makes_here (row_at (run jobs order) p) w v (Ran s) told at.number p middle.0 one at.before middle.1).1
+    left = ends w (name_on p.site) jobs order s fault p middle.0 e (makes_beside (row_at (run w jobs order) p) (feeding w jobs order (name_on p.site) p) w v (Ran s) told at.number p middle.0 one at.before middle.1).1
 
     own : Leaves s jobs order p one.becomes
-    own = ends (name_on p.site) jobs order s fault p one.becomes e one.here.1
+    own = ends w (name_on p.site) jobs order s fault p one.becomes e one.here.1
 
     found : place_of v name ≡ Some at.number
-    found = found_again (row_at (run jobs order) p) w v name (Ran s) told at.number p one at.named at.before (ap (is_site_named name) own.site ∙ alike_in name (Failed own.fault) p.site)
+    found =
+        found_beside (row_at (run w jobs order) p) (feeding w jobs order (name_on p.site) p) w v name (Ran s) told at.number p one at.named at.before (ap (is_site_named name) own.site ∙ alike_in name (Failed own.fault) p.site)
+        (λ j x y d. fed_alike name w.links.told (name_on p.site) (run_to jobs s.picks p) (is_whole s) (is_follower_on (name_on p.site) x.site) (s.ends j) x y d)

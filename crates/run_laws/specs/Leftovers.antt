@@ -7,7 +7,7 @@ use Rattle.site_defs.specs.Behind.{MayStand}
 use Rattle.site_defs.specs.Contents.{Standing}
 use Rattle.site_defs.specs.Opening.{opened, with_reign}
 use Rattle.world_defs.specs.World.{Place, CoversSo, AmongCoveredSo, IfKnown, StandAfter, Settled, name_on}
-use Rattle.world_defs.specs.Answers.{Section}
+use Rattle.world_defs.specs.Sections.{Section}
 use Rattle.world_defs.specs.rows.Run.{one_further, turn_on}
 use Rattle.world_laws.specs.Entries.{turn_there}
 

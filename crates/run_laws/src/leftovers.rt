@@ -4,7 +4,8 @@ ghost use Rattle.std.specs.Prelude.{◌≡◌, ◌∷◌, List, [], ℕ, Bool, S
 ghost use Rattle.global_defs.specs.Jobs.{Job};
 ghost use Rattle.command_defs.specs.Commands.{Name, Crash, SetJournal, Run, StartPrimary, Stop, Epoch, Resync, RecoverBackward, RecoverForward};
 ghost use Rattle.world_defs.specs.World.{Place, World};
-ghost use Rattle.world_defs.specs.Answers.{Section, Done, Ran};
+ghost use Rattle.world_defs.specs.Answers.{Done, Ran};
+ghost use Rattle.world_defs.specs.Sections.{Section};
 ghost use Rattle.world_defs.specs.Step.{Step, CutOff};
 ghost use Rattle.world_laws.specs.Entries.{IsPlaceOf};
 ghost use Rattle.run_laws.specs.Leftovers.{WritesOneOf, WritesWhatWasLeft, IsWrittenDown, IsWrittenDownBefore, IsLeftWithin, LeavesBehind};

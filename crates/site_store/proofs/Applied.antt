@@ -26,6 +26,7 @@ use Rattle.site_defs.specs.Behind.{IsSiteWith}
 use Rattle.site_defs.specs.Contents.{Contents, NO_LEFTOVER, bare}
 use Rattle.site_defs.specs.Fronts.{with_sequence}
 use Rattle.site_defs.specs.Stands.{IsSite, HasLeft}
+use Rattle.site_store.specs.Site.{AreReigns}
 use Rattle.site_store.specs.declared.memory.Memory.{Memory}
 use Rattle.site_store.specs.declared.layout.Layout.{Layout}
 use Rattle.site_store.specs.declared.site.Site.{Site}
@@ -193,6 +194,7 @@ going_roomier view old new going files fault history starts count instance = rec
     surviving = ap (λ (h : History). h.reigns) history ∙ going.history.surviving ∙ ap (λ (i : Instance). reigns i.records) (sym instance);
   };
   starts = subst (λ (i : Instance). AreStarts (reigns i.records) new.starts.items) (sym instance) (subst (λ (l : List ℕ). AreStarts (reigns old.inner.instance.records) l) (sym starts) going.starts);
+  formed = subst (λ (i : Instance). AreReigns (reigns i.records)) (sym instance) going.formed;
 }
 
 -- the parts of a transaction are those of another site with the same layout and as many entries

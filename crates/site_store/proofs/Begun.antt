@@ -24,6 +24,7 @@ use Rattle.gvn_model.specs.declared.history.History.{History}
 use Rattle.mupip_recover.specs.Minima.{minima}
 use Rattle.mupip_recover.specs.Stamps.{AreStarts}
 use Rattle.mupip_recover.proofs.StampLaws.{starts_more}
+use Rattle.site_store.proofs.OfForm.{formed_same}
 use Rattle.site_store.specs.Owning.{HasHistory}
 use Rattle.journal_defs.specs.Sequence.{Placed, Records}
 use Rattle.journal_defs.specs.Stands.{IsInstance, in_generation}
@@ -380,6 +381,7 @@ opened_kept old new was records entries hardened stamp = record {
   few = let n : count_of new ≡ count_of old = ap entry_count entries in let few = was.few in omega (arith, n, few);
   no_reign_past = subst (λ (n : ℕ). AllByRecursion (λ (q : Reign). q.start ≤ n) (reigns new.instance.records)) (ap entry_count (sym entries))
       (subst (λ (rs : List InstanceRecord). AllByRecursion (λ (q : Reign). q.start ≤ count_of old) (reigns rs)) (sym records) was.no_reign_past);
+  formed = formed_same old.instance.records new.instance.records records was.formed;
   no_reign = stamp ∙ was.no_reign;
 }
 

@@ -6,6 +6,7 @@ pub mod Remembered
 pub mod Stood
 pub mod OnBlocks
 pub mod HeldRegions
+pub mod OfForm
 pub mod Begun
 pub mod Adopted
 pub mod Nodes

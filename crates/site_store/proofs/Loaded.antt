@@ -32,6 +32,7 @@ use Rattle.site_files.proofs.Kept.{image_read, held_read}
 use Rattle.site_defs.specs.Contents.{Contents, Leftover}
 use Rattle.site_defs.specs.Forward.{opened_as, MayOpenAs}
 use Rattle.site_defs.specs.Stands.{IsSite, HasLeft}
+use Rattle.site_store.proofs.OfForm.{formed_same, formed_opened}
 use Rattle.site_store.specs.declared.memory.Memory.{Memory}
 use Rattle.site_store.specs.Finding.{HasLayout}
 use Rattle.region_store.specs.Joined.{joined}
@@ -174,6 +175,7 @@ module _ (rs : List InstanceRecord) (last : ℕ → ℕ) (form : MayBeOpened rs 
     no_reign_past = subst (λ (l : List InstanceRecord). AllByRecursion (λ (r : Reign). r.start ≤ count_of s) (reigns l)) (sym records)
         (subst (λ (l : List Reign). AllByRecursion (λ (r : Reign). r.start ≤ count_of s) l) (sym (runs.reigns-cut rs n (generation rs + 1)))
         (subst (λ (k : ℕ). AllByRecursion (λ (r : Reign). r.start ≤ k) (filter (λ (r : Reign). nat_le r.start n) (reigns rs))) count (within n (reigns rs))));
+    formed = formed_same (rs ++ next_cut rs n ∷ []) s.instance.records records (formed_opened rs n (generation rs + 1) form.some (omega arith) form.order form.form);
     no_reign = none;
   }
 

@@ -19,6 +19,7 @@ use Rattle.site_defs.specs.Contents.{Contents, Standing, NO_LEFTOVER, bare}
 use Rattle.site_defs.specs.Epochs.{MayMark, MayMarkLeft}
 use Rattle.site_defs.specs.Fronts.{with_sequence, IsFrontOf}
 use Rattle.site_defs.specs.Stands.{IsSite, HasLeft}
+use Rattle.site_store.specs.Site.{AreReigns}
 use Rattle.site_store.specs.declared.memory.Memory.{Memory}
 use Rattle.site_store.specs.declared.site.Site.{Site}
 use Rattle.site_store.specs.Site.{IsReady, IsOpen, count_of}
@@ -106,6 +107,7 @@ going_read view old new reads same kept begun fault may none =
       fault = none;
       files = subst (λ (s : Memory). IsReady (view new.disk) s) (sym same) (site_read (view old.disk) (view new.disk) old.inner reads g.files);
       history = subst (λ (s : Memory). HasHistory s new.history) (sym same) (subst (HasHistory old.inner) (sym kept) g.history);
+      formed = subst (λ (s : Memory). AreReigns (reigns s.instance.records)) (sym same) g.formed;
       starts = subst (λ (s : Memory). AreStarts (reigns s.instance.records) new.starts.items) (sym same) (subst (λ (l : List ℕ). AreStarts (reigns old.inner.instance.records) l) (sym begun) g.starts);
     }
 

@@ -10,7 +10,7 @@ use Rattle.site_defs.specs.Epochs.{MayMark}
 use Rattle.site_defs.specs.Fronts.{IsFrontOf}
 use Rattle.site_store.specs.declared.site.Site.{Site}
 use Rattle.site_store.specs.declared.memory.Memory.{Memory}
-use Rattle.site_store.specs.Site.{IsReady, IsOpen, count_of}
+use Rattle.site_store.specs.Site.{IsReady, IsOpen, count_of, AreReigns}
 
 -- its disk
 abbrev pub disk_of : {D : Type 0} → Site D → D
@@ -39,6 +39,8 @@ pub record IsGoing {D : Type 0} (view : D → View) (s : Site D) : Type 0 where
   pub files : IsReady (view s.disk) s.inner
   pub history : HasHistory s.inner s.history
   pub starts : AreStarts (reigns s.inner.instance.records) s.starts.items
+  -- its surviving reigns can be told to another site
+  pub formed : AreReigns (reigns s.inner.instance.records)
 
 -- it has stopped, or it goes on
 abbrev pub MayBeCalled : {D : Type 0} → (D → View) → Site D → Type 0

@@ -7,7 +7,8 @@ use Rattle.disk_defs.specs.Disk.{Files, View, Image}
 use Rattle.global_defs.specs.Entry as defs
 use Rattle.global_defs.specs.Entry.{Sequence, state}
 use Rattle.global_defs.specs.Prefix.{stamp_at}
-use Rattle.global_defs.specs.Fields.{IsSiteName}
+use Rattle.global_defs.specs.Rising.{StartsRise}
+use Rattle.global_defs.specs.Fields.{IsSiteName, IsReign}
 use Rattle.gvn_model.specs.declared.reign.Stamp.{Stamp}
 use Rattle.gvn_model.specs.Reigns.{stamp_value}
 use Rattle.journal_defs.specs.Journal.{JournalRecord, Pini, Epoch, Pblk, Tcom, Part, BeginsWithPini}
@@ -164,6 +165,11 @@ pub record IsSettled (v : View) (told : Bool) (c : Contents) (s : Memory) : Type
   pub is : IsOpen v told c (length c.sequence) s
   pub none_waits : (known : IsTrue told) (r : ℕ) → (is.kept known).waits r ≡ []
 
+-- reigns of their form, by rising starts
+pub record AreReigns (rs : List defs.Reign) : Type 0 where
+  pub form : AllByRecursion IsReign rs
+  pub rising : StartsRise 0 rs
+
 -- The site was opened, and nothing was done since: it has a name, all entries are hardened, and no reign has begun past them.
 pub record WasOpened (s : Memory) : Type 0 where
   pub created : 0 < length s.instance.records
@@ -171,6 +177,7 @@ pub record WasOpened (s : Memory) : Type 0 where
   pub hardened : s.hardened ≡ count_of s
   pub few : count_of s < NUMBERS_END
   pub no_reign_past : AllByRecursion (λ (r : defs.Reign). r.start ≤ count_of s) (reigns s.instance.records)
+  pub formed : AreReigns (reigns s.instance.records)
   pub no_reign : s.stamp ≡ None
 
 -- It was opened from these records, which stand for this sequence: it has the places of its entries among them, and its instance file's

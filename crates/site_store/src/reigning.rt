@@ -2,6 +2,7 @@
 ghost use Rattle.std.specs.Prelude.{◌≡◌, ◌⊎◌, ◌<◌, ◌^◌, ◌++◌, ◌∷◌, [], ℕ, List, Bool, true, length, take, Some, IfOk, IfSome, OnOk, OnErr, IsErrOf, IsSome};
 ghost use Rattle.global_defs.specs.declared.limits.TheConstants.{NUMBERS_END};
 ghost use Rattle.disk_defs.specs.Disk.{Image, AtEachMoment, MayFail};
+ghost use Rattle.global_defs.specs.Fields.{IsReign};
 ghost use Rattle.gvn_model.specs.Reigns.{stamp_value, reign_value};
 ghost use Rattle.journal_defs.specs.Instance.{Reigned, site_name};
 ghost use Rattle.journal_defs.specs.Journal.{JournalRecord};
@@ -66,6 +67,7 @@ impl Memory {
         requires next { IsNextReign self.old (reign_value reign.now) }
         requires stamp { stamp_value kept ≡ (reign_value reign.now).stamp }
         ensures ready { OnOk result (IsReady (D.disk disk.new) self.new) }
+        ensures form { OnOk result (IsReign (reign_value reign.now)) }
         ensures begun { OnOk result ((told : Bool) (c : Contents) → IsOpen (D.disk disk.old) told c (length c.sequence) self.old → IsOpen (D.disk disk.new) told (with_reign (site_name c.instance) c) (length c.sequence) self.new) }
         ensures records { OnOk result (self.new.instance.records ≡ self.old.instance.records ++ Reigned (reign_value reign.now) ∷ []) }
         ensures kept { OnErr result (self.new.instance.records ≡ self.old.instance.records) }

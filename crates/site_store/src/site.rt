@@ -484,6 +484,7 @@ impl<D: Disk> Site<D> {
         requires ready { MayBeCalled D.disk self.old }
         ensures ready { OnOk result (IsGoing D.disk self.new) }
         ensures done { OnOk result ((told : Bool) (c : Contents) (h : ℕ) → IsOpenSite D.disk told c h self.old → IsOpenSite D.disk told (marked c) (length c.sequence) self.new) }
+        ensures all { OnOk result ((memory_of self.new).hardened ≡ count_of (memory_of self.new)) }
         // no record stands behind it in any region's journal
         ensures none_needs { OnOk result ((c : Contents) (h : ℕ) → IsOpenSite D.disk true c h self.old → (f : Files) → Image (D.disk (disk_of self.new)) f → NoneNeeds (length c.sequence) f) }
         ensures stamp { (memory_of self.new).stamp ≡ (memory_of self.old).stamp }

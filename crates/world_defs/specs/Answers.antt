@@ -1,7 +1,8 @@
 -- What a command answers, and the lines of refusals and faults.
-use Rattle.std.specs.Prelude.{ℕ, List, [], ◌∷◌, ◌++◌, codes, Option}
+use Rattle.std.specs.Prelude.{ℕ, List, [], ◌∷◌, ◌++◌, codes}
 use Rattle.std.specs.Fmt.{decimal}
 use Rattle.command_defs.specs.Commands.{Name}
+use Rattle.world_defs.specs.Sections.{Section}
 
 -- why a command is refused
 pub data Cause : Type 0 where
@@ -16,6 +17,8 @@ pub data Cause : Type 0 where
   Running : Cause
   NotRunning : Cause
   NotPrimary : Cause
+  -- the site doesn't follow the other one
+  NotFollowing : Cause
   NotSimulated : Cause
   -- the site's journals have begun
   Started : Cause
@@ -33,18 +36,15 @@ pub data Cause : Type 0 where
   NoBefore : (region : Name) → (generation : ℕ) → Cause
   -- the region needs forward recovery for all entries
   NeedForward : (region : Name) → Cause
+  -- four connections were cut
+  LinkCut : Cause
+  -- what the site has from that number on isn't the primary's
+  RollbackFirst : (number : ℕ) → Cause
 
 -- the line begins with this name
 pub record Refusal : Type 0 where
   pub site : Name
   pub cause : Cause
-
--- How a section ended.
-pub record Section : Type 0 where
-  -- the updaters in the order in which their jobs were decided, hardened and answered
-  pub picks : List ℕ
-  -- the number of the fault of the primary's disk, where there was one
-  pub fault : Option ℕ
 
 pub data Answer : Type 0 where
   Done : Answer
@@ -53,6 +53,8 @@ pub data Answer : Type 0 where
   DiskFault : (fault : ℕ) → Answer
   -- a file is outside the formats, at that place
   NotAFile : (file offset : ℕ) → Answer
+  -- what came over a connection is no frame at that place
+  BadFrame : (offset : ℕ) → Answer
   Ran : Section → Answer
   -- a file has these bytes
   Typed : (text : List ℕ) → Answer
@@ -71,6 +73,7 @@ cause_text Empty = codes "EMPTY"
 cause_text Running = codes "RUNNING"
 cause_text NotRunning = codes "NOTRUNNING"
 cause_text NotPrimary = codes "NOTPRIMARY"
+cause_text NotFollowing = codes "NOTFOLLOWING"
 cause_text NotSimulated = codes "NOTSIMULATED"
 cause_text Started = codes "STARTED"
 cause_text (NoRegion region) = codes "NOREGION " ++ region
@@ -80,6 +83,8 @@ cause_text GenLimit = codes "GENLIMIT"
 cause_text ReignLimit = codes "REIGNLIMIT"
 cause_text (NoBefore region generation) = codes "NOBEFORE " ++ region ++ 32 ∷ decimal generation
 cause_text (NeedForward region) = codes "NEEDFORWARD " ++ region
+cause_text LinkCut = codes "LINKCUT"
+cause_text (RollbackFirst n) = codes "ROLLBACKFIRST " ++ decimal n
 
 abbrev pub refusal_line : Refusal → List ℕ
 refusal_line r = line r.site (cause_text r.cause)
@@ -89,3 +94,6 @@ fault_line name k = line name (codes "DISKFAULT " ++ decimal k)
 
 abbrev pub damage_line : Name → (file offset : ℕ) → List ℕ
 damage_line name file offset = line name (codes "NOTAFILE " ++ decimal file ++ 32 ∷ decimal offset)
+
+abbrev pub bad_frame_line : Name → (offset : ℕ) → List ℕ
+bad_frame_line name offset = line name (codes "BADFRAME " ++ decimal offset)

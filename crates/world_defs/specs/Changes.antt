@@ -1,5 +1,5 @@
 -- What becomes of a place.
-use Rattle.std.specs.Prelude.{◌≡◌, ℕ, ◌≤◌, false, List, [], ◌∷◌, Option, Some, None}
+use Rattle.std.specs.Prelude.{◌≡◌, ◌⊎◌, ℕ, ◌≤◌, false, List, [], ◌∷◌, Option, Some, None}
 use Rattle.disk_defs.specs.Disk.{Rose}
 use Rattle.site_defs.specs.Lists.{Among}
 use Rattle.site_defs.specs.Contents.{Contents, Standing, NO_LEFTOVER, bare}
@@ -70,6 +70,19 @@ pub record FailsUnchanged (k : ℕ) (site_then : Option Site) (old new : Place) 
   pub count : new.faults ≡ k
   pub rose : Rose old.faults k
   pub simulated : new.simulated ≡ old.simulated
+
+-- At a place, once a command was cut off: each outcome is an old one, or one after a step. As much is known of what lies behind as before: each standing is an old one, or one after a step of
+-- its own.
+pub record LeftBy (step : Contents → Contents → Type 0) (so : Standing → Standing → Type 0) (old new : Place) : Type 0 where
+  pub told : new.told ≡ old.told
+  pub outcomes : IfKnown old ((o : Contents) → Among new.outcomes o → Among old.outcomes o ⊎ After step old.outcomes o)
+  pub standings : IfKnown old (StandAfter (λ s o. (o ≡ s) ⊎ so s o) old.standings new.standings)
+  pub faults : old.faults ≤ new.faults
+  pub simulated : new.simulated ≡ old.simulated
+
+-- each outcome is an old one, and so is each standing
+abbrev pub LeavesOld : Place → Place → Type 0
+LeavesOld old new = LeftBy (λ c o. ⊥) (λ s o. ⊥) old new
 
 -- A place whose files aren't known, on which something was written.
 pub record ChangesUnknown (old new : Place) : Type 0 where

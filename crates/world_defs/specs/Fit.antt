@@ -10,7 +10,7 @@ use Rattle.journal_defs.specs.Instance.{greatest_cycle, site_name}
 use Rattle.journal_defs.specs.Surviving.{reigns}
 use Rattle.journal_defs.specs.Fit.{HasFewReigns}
 use Rattle.command_defs.specs.Commands.{Name}
-use Rattle.world_defs.specs.World.{State, Down, Primary, Failed, Site, Place, World, IfKnown, EachOutcome}
+use Rattle.world_defs.specs.World.{State, Down, Primary, Following, Waiting, Failed, Site, Place, World, IfKnown, EachOutcome}
 use Rattle.site_defs.specs.Contents.{Contents}
 
 -- an entry of the site's own has no cycle past those of the site's reigns, dropped ones among them
@@ -38,6 +38,8 @@ pub record IsFitReign (name : Name) (stamp : Stamp) (serials : List ℕ) (c : Co
 abbrev pub IsFitState : Name → State → Contents → Type 0
 IsFitState name Down c = Unit {0}
 IsFitState name (Primary stamp serials) c = IsFitReign name stamp serials c
+IsFitState name (Following primary) c = Unit {0}
+IsFitState name (Waiting primary) c = Unit {0}
 IsFitState name (Failed k) c = Unit {0}
 
 abbrev pub IsFitSite : Option Site → Contents → Type 0

@@ -1,13 +1,16 @@
 pub mod World
+pub mod Sections
 pub mod Answers
 pub mod Shown
 pub mod Changes
 pub mod Without
 pub mod Row
 pub mod Meaning
+pub mod Connecting
 pub mod rows
 pub mod Step
 pub mod Runs
 pub mod Ties
 pub mod Fit
+pub mod Together
 pub mod Samples

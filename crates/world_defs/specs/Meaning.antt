@@ -1,17 +1,23 @@
 -- What a command may mean, and where it acts.
-use Rattle.std.specs.Prelude.{ℕ, Option, Some, None, slice_get}
+use Rattle.std.specs.Prelude.{◌≡◌, ℕ, Option, Some, None, slice_get}
 use Rattle.command_defs.specs.Commands.{Name}
-use Rattle.world_defs.specs.World.{Place, World, Kept, name_on, place_of, next_of}
+use Rattle.world_defs.specs.World.{Links, Place, World, Kept, name_on, place_of, next_of}
 use Rattle.world_defs.specs.Answers.{Cause, NoSite, NoDisk, Exists, Refusal, Answer}
+use Rattle.world_defs.specs.Changes.{LeavesOld}
 use Rattle.world_defs.specs.Row.{Row}
 
--- What becomes of each place that a command doesn't act on, by the answer and the number of the place.
-abbrev pub Others : Type 1
-Others = Answer → ℕ → Place → Place → Type 0
+-- What becomes of all that a command doesn't act on.
+pub record Others : Type 1 where
+  -- of each other place, by the answer and the place's number
+  pub places : Answer → ℕ → Place → Place → Type 0
+  -- the same, where the command is cut off for want of memory
+  pub left : ℕ → Place → Place → Type 0
+  -- of the links, by the answer
+  pub links : Answer → Links → Links → Type 0
 
 -- nothing
 abbrev pub apart : Others
-apart a j = Kept
+apart = record { places = λ a j. Kept; left = λ j. LeavesOld; links = λ a old new. new ≡ old }
 
 pub data Meaning : Type 1 where
   -- it is refused, whatever its place
@@ -54,6 +60,12 @@ if_new w name f = there f w (place_of w name) (λ i p. refusing name Exists)
 -- the row of the site that stands there
 abbrev pub row_at : (Name → Place → Row) → Place → Row
 row_at row p = row (name_on p.site) p
+
+-- the one, and where it was done the other
+abbrev pub followed_by : Meaning → (World → Meaning) → Meaning
+followed_by (No r) next = No r
+followed_by (Acts i row others) next = Then i row others next
+followed_by (Then i row others more) next = Then i row others (λ w. followed_by (more w) next)
 
 abbrev pub meant : World → Target → Meaning
 meant w (On name row) = on_site w name (λ i p. Acts i (row_at row p) apart)

@@ -2,8 +2,9 @@
 use Rattle.std.specs.Prelude.{◌≡◌, ◌⊎◌, ℕ, ◌∷◌, Bool, List, [], Option, Some, None, if◌then◌else◌}
 use Rattle.command_defs.specs.Commands.{Name}
 use Rattle.site_defs.specs.Contents.{Contents, Standing}
-use Rattle.world_defs.specs.World.{State, Down, Primary, Failed, Site, Place, Kept, StandAfter}
-use Rattle.world_defs.specs.Answers.{Cause, Stopped, Running, NotRunning, NotPrimary, NotSimulated, Refusal, Section, Answer, Done, Refused, DiskFault, NotAFile, Ran, Typed, refusal_line, fault_line, damage_line}
+use Rattle.world_defs.specs.World.{State, Down, Primary, Following, Waiting, Failed, Site, Place, Kept, StandAfter}
+use Rattle.world_defs.specs.Sections.{Section}
+use Rattle.world_defs.specs.Answers.{Cause, Stopped, Running, NotRunning, NotPrimary, NotSimulated, Refusal, Answer, Done, Refused, DiskFault, NotAFile, BadFrame, Ran, Typed, refusal_line, fault_line, damage_line, bad_frame_line}
 use Rattle.world_defs.specs.Changes.{in_new_state, Fails, KeptUnknown}
 
 -- Functions of the place that the command leaves; the place before, and the command, are the arguments of each row.
@@ -26,6 +27,8 @@ pub record Row : Type 1 where
   pub fault : ℕ → Place → Type 0
   -- bytes are outside the formats, at that place of that file
   pub damage : (file offset : ℕ) → Place → Type 0
+  -- what came over a connection is no frame at that place
+  pub bad_frame : (offset : ℕ) → Place → Type 0
   -- what a refusal by these tests leaves
   pub refused : Refusal → Place → Type 0
   -- where files aren't known they may refuse it too
@@ -50,6 +53,7 @@ quiet word p = record {
   typed = λ text q. ⊥;
   fault = λ k q. ⊥;
   damage = λ file offset q. ⊥;
+  bad_frame = λ offset q. ⊥;
   refused = λ r q. Kept p q;
   may_refuse = λ r q. ⊥;
   by_bytes = λ a. Unit {0};
@@ -79,6 +83,11 @@ abbrev pub or_else : Option Refusal → Option Refusal → Option Refusal
 or_else None r = r
 or_else (Some q) r = Some q
 
+-- the first of these
+abbrev pub first_refusal : List (Option Refusal) → Option Refusal
+first_refusal [] = None
+first_refusal (r ∷ more) = or_else r (first_refusal more)
+
 -- the cause, where the test passes
 abbrev pub caused : Bool → Cause → Option Cause
 caused b cause = if b then Some cause else None
@@ -91,20 +100,28 @@ in_state test (Some site) = test site.state
 abbrev pub stopped : State → Option Cause
 stopped (Failed k) = Some (Stopped k)
 stopped (Primary stamp serials) = None
+stopped (Following primary) = None
+stopped (Waiting primary) = None
 stopped Down = None
 
 abbrev pub running : State → Option Cause
 running Down = None
 running (Primary stamp serials) = Some Running
+running (Following primary) = Some Running
+running (Waiting primary) = Some Running
 running (Failed k) = Some Running
 
 abbrev pub not_running : State → Option Cause
 not_running Down = Some NotRunning
 not_running (Primary stamp serials) = None
+not_running (Following primary) = None
+not_running (Waiting primary) = None
 not_running (Failed k) = None
 
 abbrev pub not_primary : State → Option Cause
 not_primary (Primary stamp serials) = None
+not_primary (Following primary) = Some NotPrimary
+not_primary (Waiting primary) = Some NotPrimary
 not_primary Down = Some NotPrimary
 not_primary (Failed k) = Some NotPrimary
 
@@ -136,5 +153,6 @@ Here row Done q t = (refusal_in row ≡ None) × row.done q × (t ≡ row.says q
 Here row (Refused r) q t = (((refusal_in row ≡ Some r) × row.refused r q) ⊎ ((row.early ≡ None) × row.may_refuse r q)) × (t ≡ refusal_line r) × row.by_bytes (Refused r)
 Here row (DiskFault k) q t = (row.early ≡ None) × row.fault k q × (t ≡ fault_line row.word k)
 Here row (NotAFile file offset) q t = (row.early ≡ None) × row.damage file offset q × (t ≡ damage_line row.word file offset) × row.by_bytes (NotAFile file offset)
+Here row (BadFrame offset) q t = (refusal_in row ≡ None) × row.bad_frame offset q × (t ≡ bad_frame_line row.word offset)
 Here row (Ran s) q t = (refusal_in row ≡ None) × row.ran s q × (t ≡ row.tells s)
 Here row (Typed text) q t = (refusal_in row ≡ None) × row.typed text q × (t ≡ text) × row.by_bytes (Typed text)

@@ -1,13 +1,21 @@
 -- Small worlds for the laws, and a command made of others.
-use Rattle.std.specs.Prelude.{◌==◌, Bool, true, false, [], ◌∷◌, codes, Some, None, if◌then◌else◌}
+use Rattle.std.specs.Prelude.{◌==◌, List, Bool, true, false, [], ◌∷◌, codes, Some, None, if◌then◌else◌}
 use Rattle.journal_defs.specs.Instance as records
 use Rattle.command_defs.specs.Commands.{Name}
-use Rattle.world_defs.specs.World.{Place, World, Down, Primary, Failed}
+use Rattle.world_defs.specs.World.{State, Links, Place, World, Down, Primary, Failed}
 use Rattle.world_defs.specs.Meaning.{Meaning, Acts, Then, apart, on_site, row_at}
 use Rattle.world_defs.specs.rows.Start.{start}
 use Rattle.world_defs.specs.rows.Stop.{stop}
 use Rattle.site_defs.specs.Contents.{Contents, nothing, NO_LEFTOVER, bare}
 use Rattle.site_defs.specs.Samples.{made, two_entries}
+
+-- links in memory, over which no connection was made yet
+abbrev pub NO_CONNECTIONS : Links
+NO_CONNECTIONS = record { told = true; simulated = true; sessions = λ i. record { orders = []; cuts = 0 } }
+
+-- the world of these places
+abbrev pub of_places : List Place → World
+of_places ps = record { places = ps; links = NO_CONNECTIONS }
 
 -- where a call of A's disk failed, the third one on it
 abbrev pub failed_place : (simulated : Bool) → Place
@@ -38,6 +46,14 @@ primary_place told c = record {
   faults = 0;
   simulated = true;
 }
+
+-- the site B with region R
+abbrev pub second_made : Contents
+second_made = record made { instance = records.Create (codes "B") (record { name = codes "R"; before = true } ∷ []) ∷ [] }
+
+-- where B is so, in that state
+abbrev pub second_place : State → Place
+second_place state = record (down_place second_made) { site = Some (record { name = codes "B"; state = state }) }
 
 -- an empty disk
 abbrev pub blank_place : Place

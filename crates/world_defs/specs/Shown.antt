@@ -9,7 +9,7 @@ use Rattle.journal_defs.specs.Sequence.{Records, IsSequence}
 use Rattle.journal_defs.specs.Stands.{IsInstance, AreRecords}
 use Rattle.command_defs.specs.Commands.{Name}
 use Rattle.site_defs.specs.Outside.{IsNoInstance, HasNoDirectory}
-use Rattle.world_defs.specs.Answers.{Refusal, Answer, Done, Refused, DiskFault, NotAFile, Ran, Typed}
+use Rattle.world_defs.specs.Answers.{Refusal, Answer, Done, Refused, DiskFault, NotAFile, BadFrame, Ran, Typed}
 
 -- the instance file has no open record
 abbrev pub HasNoRecord : Files → Type 0
@@ -41,6 +41,7 @@ ByAnswer done refused damage typed Done = done
 ByAnswer done refused damage typed (Refused r) = refused r
 ByAnswer done refused damage typed (DiskFault k) = Unit {0}
 ByAnswer done refused damage typed (NotAFile file offset) = damage file offset
+ByAnswer done refused damage typed (BadFrame offset) = Unit {0}
 ByAnswer done refused damage typed (Ran s) = Unit {0}
 ByAnswer done refused damage typed (Typed text) = typed text
 

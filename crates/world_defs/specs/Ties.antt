@@ -1,5 +1,5 @@
 -- What ties disks to a world.
-use Rattle.std.specs.Prelude.{◌≡◌, Bool, true, false, List, Some, IfSome, IsSomeAnd}
+use Rattle.std.specs.Prelude.{◌≡◌, ℕ, Bool, true, false, List, Some, IfSome, IsSomeAnd}
 use Rattle.std.specs.List.{AllByRecursion}
 use Rattle.global_defs.specs.Beside.{Along}
 use Rattle.disk_defs.specs.Disk.{Files, View, Image}
@@ -7,7 +7,8 @@ use Rattle.site_defs.specs.Lists.{Among}
 use Rattle.site_defs.specs.Contents.{Contents, Standing}
 use Rattle.site_defs.specs.Stands.{Reads, Stands}
 use Rattle.site_defs.specs.Behind.{StandsSo}
-use Rattle.world_defs.specs.World.{Place, World, Covers, CoversSo, has_failed_on, IfKnown, IfShown}
+use Rattle.wire_defs.specs.Links.{Linking}
+use Rattle.world_defs.specs.World.{Links, Place, World, Covers, CoversSo, has_failed_on, IfKnown, IfShown}
 
 -- The files stand for these contents; where a call of their disk failed, perhaps for some that these cover.
 abbrev pub StandsBy : (failed : Bool) → Files → Contents → Type 0
@@ -40,3 +41,14 @@ AreShown w = AllByRecursion IsShown w.places
 -- The disks are this world's.
 abbrev pub AreDisks : {D : Type 0} → (D → View) → List D → World → Type 0
 AreDisks view disks w = Along (λ i d p. Matches (view d) p) disks w.places
+
+-- What a linker has of each session is what the world says.
+pub record AreLinked (l : Linking) (links : Links) : Type 0 where
+  pub told : l.told ≡ links.told
+  pub simulated : l.simulated ≡ links.simulated
+  pub orders : (s : ℕ) → l.orders s ≡ (links.sessions s).orders
+  pub cuts : (s : ℕ) → l.cuts s ≡ (links.sessions s).cuts
+
+-- The links are this world's.
+abbrev pub AreLinks : {L : Type 0} → (L → Linking) → L → World → Type 0
+AreLinks view linker w = AreLinked (view linker) w.links

@@ -1,7 +1,7 @@
 -- The world of a run between two commands: plain data (GT.M: instances, and what the replication of each one does).
 use Rattle.global_defs.specs.declared.limits.TheConstants.{MOST_SITES}
 use Rattle.site_defs.specs.Contents.{Contents, Leftover, Standing, same_name}
-use Rattle.std.specs.Prelude.{◌≡◌, ◌⊎◌, ℕ, ◌≤◌, Bool, true, false, List, [], ◌∷◌, ◌++◌, Option, Some, None, IsTrue, take, IfSome}
+use Rattle.std.specs.Prelude.{◌≡◌, ◌⊎◌, ℕ, ◌≤◌, Bool, true, false, List, [], ◌∷◌, ◌++◌, Option, Some, None, IsTrue, take, IfSome, if◌then◌else◌}
 use Rattle.std.specs.List.{AllByRecursion}
 use Rattle.disk_defs.specs.Disk.{Files}
 use Rattle.global_defs.specs.Entry.{Stamp}
@@ -13,6 +13,10 @@ pub data State : Type 0 where
   Down : State
   -- its reign, and the next serials of the 64 updaters, updater u at place u - 1
   Primary : Stamp → (serials : List ℕ) → State
+  -- open as a secondary of the site with that name
+  Following : (primary : Name) → State
+  -- the same, and that site was rolled back since
+  Waiting : (primary : Name) → State
   -- a call of its disk failed, the one of that number on it
   Failed : (fault : ℕ) → State
 
@@ -40,9 +44,26 @@ pub record Place : Type 0 where
   -- whether the disk can be made to fail and to crash
   pub simulated : Bool
 
+-- The connections of a secondary with its primary.
+pub record Session : Type 0 where
+  -- after how many bytes the next ones are to be cut
+  pub orders : List ℕ
+  -- how many were cut
+  pub cuts : ℕ
+
+-- The links between sites (GT.M: TCP connections of Source Servers to Receiver Servers).
+pub record Links : Type 0 where
+  -- whether they tell their bytes
+  pub told : Bool
+  -- whether connections can be ordered to be cut
+  pub simulated : Bool
+  -- by the secondary's place
+  pub sessions : ℕ → Session
+
 -- Sites stand on the first disks, in the order of their making.
 pub record World : Type 0 where
   pub places : List Place
+  pub links : Links
 
 abbrev pub is_site_named : Name → Option Site → Bool
 is_site_named name None = false
@@ -102,6 +123,8 @@ AmongCoveredSo os s = (o : Standing) × Among os o × CoversSo o s
 abbrev pub has_failed : State → Bool
 has_failed Down = false
 has_failed (Primary stamp serials) = false
+has_failed (Following primary) = false
+has_failed (Waiting primary) = false
 has_failed (Failed k) = true
 
 -- a call of the disk of the site there failed
@@ -141,9 +164,9 @@ pub record StaysKnown (old new : Place) : Type 0 where
   pub outcomes : NoNew old.outcomes new.outcomes
   pub standings : IfKnown old (StandAsBefore old.standings new.standings)
 
--- A command leaves a site that it doesn't act on so.
-pub record Kept (old new : Place) : Type 0 where
-  pub site : new.site ≡ old.site
+-- All of a place stays, but perhaps the site's state.
+pub record KeptAs (site_then : Option Site) (old new : Place) : Type 0 where
+  pub site : new.site ≡ site_then
   pub now : new.now ≡ old.now
   pub left : new.left ≡ old.left
   pub known : StaysKnown old new
@@ -151,6 +174,36 @@ pub record Kept (old new : Place) : Type 0 where
   pub faults : old.faults ≤ new.faults
   pub simulated : new.simulated ≡ old.simulated
 
--- all places are as before
+-- A command leaves a site that it doesn't act on so.
+abbrev pub Kept : Place → Place → Type 0
+Kept old new = KeptAs old.site old new
+
+-- all is as before
 abbrev pub Unchanged : World → World → Type 0
-Unchanged w m = Along (λ i. Kept) w.places m.places
+Unchanged w m = Along (λ i. Kept) w.places m.places × (m.links ≡ w.links)
+
+-- The site is a secondary of the one with that name.
+
+abbrev pub is_follower : Name → State → Bool
+is_follower name Down = false
+is_follower name (Primary stamp serials) = false
+is_follower name (Following primary) = same_name primary name
+is_follower name (Waiting primary) = same_name primary name
+is_follower name (Failed k) = false
+
+abbrev pub is_follower_on : Name → Option Site → Bool
+is_follower_on name None = false
+is_follower_on name (Some site) = is_follower name site.state
+
+-- The site with that name was rolled back: who follows it waits for it from then on.
+
+abbrev pub set_back : Name → State → State
+set_back name Down = Down
+set_back name (Primary stamp serials) = Primary stamp serials
+set_back name (Following primary) = if same_name primary name then Waiting primary else Following primary
+set_back name (Waiting primary) = Waiting primary
+set_back name (Failed k) = Failed k
+
+abbrev pub set_back_on : Name → Option Site → Option Site
+set_back_on name None = None
+set_back_on name (Some site) = Some (record { name = site.name; state = set_back name site.state })

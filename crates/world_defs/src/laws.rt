@@ -1,8 +1,8 @@
 // What the definitions come to on small values.
-ghost use Rattle.std.specs.Prelude.{◌≡◌, ◌⊎◌, ◌∷◌, ◌++◌, [], ℕ, Bool, List, codes, Some, None, IsSomeAnd, true, false};
+ghost use Rattle.std.specs.Prelude.{◌≡◌, ◌⊎◌, ◌∷◌, ◌++◌, ◌==◌, [], ℕ, Bool, List, codes, Some, None, IsSomeAnd, true, false, if◌then◌else◌};
 ghost use Rattle.disk_defs.specs.Disk.{Rose};
 ghost use Rattle.journal_defs.specs.Instance as records;
-ghost use Rattle.journal_defs.specs.Instance.{InstanceRecord, mode_of};
+ghost use Rattle.journal_defs.specs.Instance.{InstanceRecord, generation, mode_of};
 ghost use Rattle.global_defs.specs.Entry.{Sequence};
 ghost use Rattle.site_defs.specs.Contents.{Contents, Standing, nothing, bare};
 ghost use Rattle.site_defs.specs.Fronts.{turn_of};
@@ -12,9 +12,17 @@ ghost use Rattle.site_defs.specs.Opening.{cut_with, opened, with_pattern};
 ghost use Rattle.global_defs.specs.Extract.{extract};
 ghost use Rattle.site_defs.specs.Samples.{made, reigned_once, two_regions, set_once, two_entries};
 ghost use Rattle.site_defs.specs.Texts.{extract_from};
-ghost use Rattle.command_defs.specs.Commands.{Attach, Create, SetJournal, StartPrimary, Stop, Epoch, Crash, Show, Resync, RecoverBackward, RecoverForward, with_images};
-ghost use Rattle.world_defs.specs.World.{Place, World, Primary, Failed};
-ghost use Rattle.world_defs.specs.Answers.{NoSite, NoDisk, Empty, Exists, Stopped, NotRunning, NotSimulated, Running, Started, NoRegion, TwiceMapped, NoFile, GenLimit, ReignLimit, NoBefore, NeedForward, Answer, Refusal, Done, Refused, DiskFault, NotAFile, Typed, refusal_line, fault_line};
+ghost use Rattle.command_defs.specs.Commands.{Attach, Create, SetJournal, StartPrimary, StartSecondary, Switch, Fetchresync, Stop, Epoch, Crash, Show, Resync, RecoverBackward, RecoverForward, with_images};
+ghost use Rattle.world_defs.specs.World.{Session, Links, Place, World, Down, Primary, Following, Waiting, Failed, is_follower_on, set_back_on};
+ghost use Rattle.world_defs.specs.Sections as sections;
+ghost use Rattle.world_defs.specs.Connecting.{GivenUp, Answered, Orders};
+ghost use Rattle.feeding_defs.specs.Feeding.{fed};
+ghost use Rattle.journal_defs.specs.Surviving.{reigns};
+ghost use Rattle.world_defs.specs.rows.Cut.{cut};
+ghost use Rattle.world_defs.specs.rows.Feed.{IsFed, follower_lines};
+ghost use Rattle.world_defs.specs.rows.Fetch.{fetch};
+ghost use Rattle.world_defs.specs.rows.Follow.{follow};
+ghost use Rattle.world_defs.specs.Answers.{NoSite, NoDisk, Empty, Exists, Stopped, NotRunning, NotPrimary, NotFollowing, NotSimulated, Running, LinkCut, RollbackFirst, Started, NoRegion, TwiceMapped, NoFile, GenLimit, ReignLimit, NoBefore, NeedForward, Answer, Refusal, Done, Refused, DiskFault, NotAFile, Typed, refusal_line, fault_line};
 ghost use Rattle.world_defs.specs.Row.{first, refusal_in, Here};
 ghost use Rattle.world_defs.specs.rows.Attach.{attach};
 ghost use Rattle.world_defs.specs.rows.Crash.{Crashes};
@@ -24,33 +32,34 @@ ghost use Rattle.world_defs.specs.rows.Extract as extracts;
 ghost use Rattle.world_defs.specs.rows.Map.{map_pattern, started, twice_mapped, unmapped};
 ghost use Rattle.world_defs.specs.rows.Print.{no_file, print, typed};
 ghost use Rattle.world_defs.specs.rows.Recover.{recover};
-ghost use Rattle.world_defs.specs.rows.Rollback.{rollback};
+ghost use Rattle.world_defs.specs.rows.Rollback.{SetsBack, rollback};
 ghost use Rattle.world_defs.specs.rows.Run.{section_text};
 ghost use Rattle.world_defs.specs.rows.SetJournal.{set_journal};
 ghost use Rattle.world_defs.specs.rows.Show.{show_state};
 ghost use Rattle.world_defs.specs.rows.Start.{FIRST_SERIALS, StartsPrimary, generation_limit, reign_limit, start};
 ghost use Rattle.world_defs.specs.rows.Stop.{stop};
-ghost use Rattle.world_defs.specs.Step.{LeavesOld, LeftByRow, Step, refusal, refusal_of};
-ghost use Rattle.world_defs.specs.Samples.{failed_place, torn_place, blank_place, made_place, down_place, primary_place, shown_place, lost_place, created_place, broken_off_place, left_place, without_images, marked_without_images, at_last_generation, switching};
+ghost use Rattle.world_defs.specs.Changes.{LeavesOld};
+ghost use Rattle.world_defs.specs.Step.{LeftByRow, Step, refusal, refusal_of};
+ghost use Rattle.world_defs.specs.Samples.{failed_place, torn_place, blank_place, made_place, down_place, primary_place, shown_place, lost_place, created_place, broken_off_place, left_place, without_images, marked_without_images, at_last_generation, switching, of_places, NO_CONNECTIONS, second_made, second_place};
 
 /// A world without disks refuses what needs one; one whose only disk failed refuses what needs it until a crash.
 pub fn refusals_hold()
-    ensures start { refusal (record { places = [] }) (StartPrimary (codes "A")) ≡ Some (record { site = codes "A"; cause = NoSite }) }
-    ensures create { refusal (record { places = [] }) (Create (codes "A") []) ≡ Some (record { site = codes "A"; cause = NoDisk }) }
-    ensures attach { refusal (record { places = [] }) Attach ≡ Some (record { site = codes "ATTACH"; cause = NoDisk }) }
-    ensures failed { refusal (record { places = failed_place true ∷ [] }) (Stop (codes "A")) ≡ Some (record { site = codes "A"; cause = Stopped 3 }) }
-    ensures down { refusal (record { places = shown_place ∷ [] }) (Epoch (codes "A")) ≡ Some (record { site = codes "A"; cause = NotRunning }) }
-    ensures crashed { refusal (record { places = failed_place true ∷ [] }) (Crash (codes "A") 0) ≡ None }
-    ensures real { refusal (record { places = failed_place false ∷ [] }) (Crash (codes "A") 0) ≡ Some (record { site = codes "A"; cause = NotSimulated }) }
-    ensures both { refusal_of (switching (codes "A") (codes "B") (record { places = failed_place true ∷ [] })) ≡ Some (record { site = codes "B"; cause = NoSite }) }
-    ensures shown { refusal (record { places = failed_place true ∷ [] }) (Show (codes "A")) ≡ None }
+    ensures start { refusal (of_places []) (StartPrimary (codes "A")) ≡ Some (record { site = codes "A"; cause = NoSite }) }
+    ensures create { refusal (of_places []) (Create (codes "A") []) ≡ Some (record { site = codes "A"; cause = NoDisk }) }
+    ensures attach { refusal (of_places []) Attach ≡ Some (record { site = codes "ATTACH"; cause = NoDisk }) }
+    ensures failed { refusal (of_places (failed_place true ∷ [])) (Stop (codes "A")) ≡ Some (record { site = codes "A"; cause = Stopped 3 }) }
+    ensures down { refusal (of_places (shown_place ∷ [])) (Epoch (codes "A")) ≡ Some (record { site = codes "A"; cause = NotRunning }) }
+    ensures crashed { refusal (of_places (failed_place true ∷ [])) (Crash (codes "A") 0) ≡ None }
+    ensures real { refusal (of_places (failed_place false ∷ [])) (Crash (codes "A") 0) ≡ Some (record { site = codes "A"; cause = NotSimulated }) }
+    ensures both { refusal_of (switching (codes "A") (codes "B") (of_places (failed_place true ∷ []))) ≡ Some (record { site = codes "B"; cause = NoSite }) }
+    ensures shown { refusal (of_places (failed_place true ∷ [])) (Show (codes "A")) ≡ None }
 {}
 
 /// A disk without a site isn't attached, nor is a site whose name another one has.
 pub fn attaching_holds()
-    ensures empty { refusal (record { places = blank_place ∷ [] }) Attach ≡ Some (record { site = codes "ATTACH"; cause = Empty }) }
-    ensures named { refusal (record { places = failed_place true ∷ made_place ∷ [] }) Attach ≡ Some (record { site = codes "A"; cause = Exists }) }
-    ensures taken { refusal (record { places = made_place ∷ [] }) Attach ≡ None }
+    ensures empty { refusal (of_places (blank_place ∷ [])) Attach ≡ Some (record { site = codes "ATTACH"; cause = Empty }) }
+    ensures named { refusal (of_places (failed_place true ∷ made_place ∷ [])) Attach ≡ Some (record { site = codes "A"; cause = Exists }) }
+    ensures taken { refusal (of_places (made_place ∷ [])) Attach ≡ None }
 {}
 
 /// The limits are those of a site's contents; a site that was created is the sample.
@@ -138,7 +147,7 @@ pub fn rolling_holds()
     ensures fault { (k : ℕ) (q : Place) (text : List ℕ) → Here (rollback 2 (codes "A") (down_place two_entries)) (DiskFault k) q text → (q.now.sequence ≡ two_entries.sequence) ⊎ (q.now.sequence ≡ set_once 1 (codes "a") ∷ []) }
     ensures not_refused { (r : Refusal) (q : Place) (text : List ℕ) → Here (rollback 2 (codes "A") (down_place two_entries)) (Refused r) q text → ⊥ }
     ensures limit { refusal_in (rollback 2 (codes "A") (down_place at_last_generation)) ≡ Some (record { site = codes "A"; cause = GenLimit }) }
-    ensures running { refusal (record { places = primary_place true two_entries ∷ [] }) (Resync (codes "A") 2) ≡ Some (record { site = codes "A"; cause = Running }) }
+    ensures running { refusal (of_places (primary_place true two_entries ∷ [])) (Resync (codes "A") 2) ≡ Some (record { site = codes "A"; cause = Running }) }
     // a region whose journal began without images
     ensures without { refusal_in (rollback 2 (codes "A") (down_place without_images)) ≡ Some (record { site = codes "A"; cause = NoBefore (codes "R") 1 }) }
     ensures without_text { refusal_line (record { site = codes "A"; cause = NoBefore (codes "R") 1 }) ≡ codes "A NOBEFORE R 1\n" }
@@ -154,8 +163,8 @@ pub fn recovering_holds()
     ensures backward { (q : Place) (text : List ℕ) → Here (recover false (codes "A") (down_place two_entries)) Done q text → q.now.starts 0 ≡ two_entries.starts 0 ++ record { region = 0; before = true; generation = 2; previous = 1 } ∷ [] }
     ensures forward { (q : Place) (text : List ℕ) → Here (recover true (codes "A") (down_place two_entries)) Done q text → q.now.starts 0 ≡ two_entries.starts 0 ++ record { region = 0; before = false; generation = 2; previous = 1 } ∷ [] }
     ensures limit { (anew : Bool) → refusal_in (recover anew (codes "A") (down_place at_last_generation)) ≡ Some (record { site = codes "A"; cause = GenLimit }) }
-    ensures running { refusal (record { places = primary_place true two_entries ∷ [] }) (RecoverBackward (codes "A")) ≡ Some (record { site = codes "A"; cause = Running }) }
-    ensures running_anew { refusal (record { places = primary_place true two_entries ∷ [] }) (RecoverForward (codes "A")) ≡ Some (record { site = codes "A"; cause = Running }) }
+    ensures running { refusal (of_places (primary_place true two_entries ∷ [])) (RecoverBackward (codes "A")) ≡ Some (record { site = codes "A"; cause = Running }) }
+    ensures running_anew { refusal (of_places (primary_place true two_entries ∷ [])) (RecoverForward (codes "A")) ≡ Some (record { site = codes "A"; cause = Running }) }
 {}
 
 /// Where a region's journal began without images, it may need forward recovery: START and RECOVER BACKWARD may be refused for it, and for no other region.
@@ -185,7 +194,7 @@ pub fn setting_holds()
     ensures outcomes { (before : Bool) (q : Place) (text : List ℕ) → Here (set_journal (codes "R") before (codes "A") (left_place two_entries)) Done q text → (o : Contents) → Among q.outcomes o → o ≡ q.now }
     ensures not_refused { (before : Bool) (r : Refusal) (q : Place) (text : List ℕ) → Here (set_journal (codes "R") before (codes "A") (left_place two_entries)) (Refused r) q text → ⊥ }
     ensures region { refusal_in (set_journal (codes "Q") false (codes "A") (down_place two_entries)) ≡ Some (record { site = codes "A"; cause = NoRegion (codes "Q") }) }
-    ensures running { refusal (record { places = primary_place true two_entries ∷ [] }) (SetJournal (codes "A") (codes "R") false) ≡ Some (record { site = codes "A"; cause = Running }) }
+    ensures running { refusal (of_places (primary_place true two_entries ∷ [])) (SetJournal (codes "A") (codes "R") false) ≡ Some (record { site = codes "A"; cause = Running }) }
 {}
 
 /// The lines of a refusal, of a fault, of a site that is shown, and of a section that a fault ended.
@@ -195,12 +204,74 @@ pub fn output_holds()
     ensures need_forward { refusal_line (record { site = codes "A"; cause = NeedForward (codes "R") }) ≡ codes "A NEEDFORWARD R\n" }
     ensures fault { fault_line (start (codes "A") made_place).word 7 ≡ codes "A DISKFAULT 7\n" }
     // a whole command: STOP of a site that failed is refused with its line, and changes nothing
-    ensures refused { Step (record { places = failed_place true ∷ [] }) (Stop (codes "A")) (Refused (record { site = codes "A"; cause = Stopped 3 }) ∷ []) (record { places = failed_place true ∷ [] }) (codes "A STOPPED 3\n") }
+    ensures refused { Step (of_places (failed_place true ∷ [])) (Stop (codes "A")) (Refused (record { site = codes "A"; cause = Stopped 3 }) ∷ []) (of_places (failed_place true ∷ [])) (codes "A STOPPED 3\n") }
     // and it writes no other one
-    ensures only { (answers : List Answer) (m : World) (text : List ℕ) → Step (record { places = failed_place true ∷ [] }) (Stop (codes "A")) answers m text → text ≡ codes "A STOPPED 3\n" }
+    ensures only { (answers : List Answer) (m : World) (text : List ℕ) → Step (of_places (failed_place true ∷ [])) (Stop (codes "A")) answers m text → text ≡ codes "A STOPPED 3\n" }
     ensures attach { refusal_line (record { site = codes "ATTACH"; cause = Empty }) ≡ codes "ATTACH EMPTY\n" }
-    ensures attached { (attach (record { places = blank_place ∷ [] }) blank_place).says (failed_place true) ≡ codes "A ATTACHED\n" }
-    ensures section { section_text (codes "A") 2 (turn_of (record { root = codes "A"; cycle = 1 }) FIRST_SERIALS [] [] []) (Some 1) ≡ codes "A DISKFAULT 1 UNDECIDED 2\n" }
+    ensures attached { (attach (of_places (blank_place ∷ [])) blank_place).says (failed_place true) ≡ codes "A ATTACHED\n" }
+    ensures section { section_text (codes "A") 2 (turn_of (record { root = codes "A"; cycle = 1 }) FIRST_SERIALS [] [] []) [] (Some 1) None ≡ codes "A DISKFAULT 1 UNDECIDED 2\n" }
     ensures failed { show_state (codes "A") (Failed 3) nothing ≡ codes "A STATE FAILED 3\n" }
     ensures primary { show_state (codes "A") (Primary (record { root = codes "A"; cycle = 1 }) FIRST_SERIALS) reigned_once ≡ codes "A STATE PRIMARY 1 LENGTH 0\nA REIGN A 1 FROM 1\n" }
+{}
+
+/// A START SECONDARY is refused by names and states in their order, of two sites.
+pub fn following_holds()
+    ensures no_site { refusal (of_places []) (StartSecondary (codes "B") (codes "A")) ≡ Some (record { site = codes "B"; cause = NoSite }) }
+    ensures no_primary { refusal (of_places (second_place Down ∷ [])) (StartSecondary (codes "B") (codes "A")) ≡ Some (record { site = codes "A"; cause = NoSite }) }
+    // a failed primary is named before a running secondary
+    ensures stopped { refusal (of_places (failed_place true ∷ second_place (Waiting (codes "A")) ∷ [])) (StartSecondary (codes "B") (codes "A")) ≡ Some (record { site = codes "A"; cause = Stopped 3 }) }
+    ensures running { refusal (of_places (down_place made ∷ second_place (Following (codes "A")) ∷ [])) (StartSecondary (codes "B") (codes "A")) ≡ Some (record { site = codes "B"; cause = Running }) }
+    ensures not_primary { refusal (of_places (down_place made ∷ second_place Down ∷ [])) (StartSecondary (codes "B") (codes "A")) ≡ Some (record { site = codes "A"; cause = NotPrimary }) }
+    ensures taken { refusal (of_places (primary_place true two_entries ∷ second_place Down ∷ [])) (StartSecondary (codes "B") (codes "A")) ≡ None }
+    ensures told { (q : Place) (text : List ℕ) → Here (follow true (primary_place true two_entries) (codes "B") (second_place Down)) Done q text → text ≡ codes "B FOLLOWS A FROM 1\n" }
+    ensures state { (q : Place) (text : List ℕ) → Here (follow true (primary_place true two_entries) (codes "B") (second_place Down)) Done q text → q.site ≡ (second_place (Following (codes "A"))).site }
+    // where four connections were cut it's down again, once a generation was drawn
+    ensures cut_off { (q : Place) (text : List ℕ) → Here (follow true (primary_place true two_entries) (codes "B") (second_place Down)) (Refused (record { site = codes "B"; cause = LinkCut })) q text → (q.site ≡ (second_place Down).site) × (generation q.now.instance ≡ 1) }
+    ensures cut_text { refusal_line (record { site = codes "B"; cause = LinkCut }) ≡ codes "B LINKCUT\n" }
+    ensures parted_text { refusal_line (record { site = codes "A"; cause = RollbackFirst 81 }) ≡ codes "A ROLLBACKFIRST 81\n" }
+    // a secondary without entries isn't behind by any
+    ensures not_parted { (n : ℕ) (q : Place) (text : List ℕ) → Here (follow true (primary_place true two_entries) (codes "B") (second_place Down)) (Refused (record { site = codes "B"; cause = RollbackFirst n })) q text → ⊥ }
+{}
+
+/// Connections use up the orders of their session: four that are cut, or some and one that isn't.
+pub fn connecting_holds()
+    ensures cut_off { (s : Session) → GivenUp true (record { orders = 1 ∷ 2 ∷ 3 ∷ 4 ∷ 5 ∷ []; cuts = 7 }) s → (s.orders ≡ 5 ∷ []) × (s.cuts ≡ 11) }
+    // fewer orders cut no four connections
+    ensures ordered { (s : Session) → GivenUp true (record { orders = 1 ∷ 2 ∷ 3 ∷ []; cuts = 0 }) s → ⊥ }
+    ensures whole { (s : Session) → Answered true (record { orders = []; cuts = 7 }) s → (s.orders ≡ []) × (s.cuts ≡ 7) }
+    ensures told { (cut NO_CONNECTIONS 40 (codes "B") (second_place Down)).says (second_place Down) ≡ codes "B CUT 40\n" }
+    ensures real { refusal_in (cut (record NO_CONNECTIONS { simulated = false }) 40 (codes "B") (second_place Down)) ≡ Some (record { site = codes "B"; cause = NotSimulated }) }
+    ensures order { (l : Links) → Orders 1 40 NO_CONNECTIONS l → ((l.sessions 1).orders ≡ 40 ∷ []) × ((l.sessions 0).orders ≡ []) }
+{}
+
+/// A follower takes the primary's entries behind its own, each under its reign; and what it writes.
+pub fn feeding_holds()
+    ensures entries { (fed (reigns two_entries.instance) two_entries.sequence 2 second_made).sequence ≡ two_entries.sequence }
+    ensures reign { (fed (reigns two_entries.instance) two_entries.sequence 2 second_made).instance ≡ second_made.instance ++ records.Reigned (record { stamp = record { root = codes "A"; cycle = 1 }; start = 1 }) ∷ [] }
+    // the reign comes with its first entry and no earlier
+    ensures none { (fed (reigns two_entries.instance) two_entries.sequence 0 second_made).instance ≡ second_made.instance }
+    // and once
+    ensures once { (fed (reigns two_entries.instance) two_entries.sequence 2 (fed (reigns two_entries.instance) two_entries.sequence 1 second_made)).instance ≡ (fed (reigns two_entries.instance) two_entries.sequence 2 second_made).instance }
+    // behind a BYE it follows, and has all
+    ensures all { (q : Place) → IsFed true (codes "A") two_entries true true (Some (sections.At 2)) (second_place (Waiting (codes "A"))) q → (q.site ≡ (second_place (Following (codes "A"))).site) × (q.now.sequence ≡ two_entries.sequence) }
+    ensures no_fewer { (q : Place) → IsFed true (codes "A") two_entries true true (Some (sections.At 1)) (second_place (Waiting (codes "A"))) q → ⊥ }
+    // where its links were cut it waits still
+    ensures cut { (n : ℕ) (q : Place) → IsFed true (codes "A") two_entries true true (Some (sections.LinkCut n)) (second_place (Waiting (codes "A"))) q → q.site ≡ (second_place (Waiting (codes "A"))).site }
+    // another site's follower is left alone
+    ensures apart { is_follower_on (codes "C") (second_place (Following (codes "A"))).site ≡ false }
+    ensures lines { follower_lines (primary_place true two_entries ∷ second_place (Following (codes "A")) ∷ []) (λ j. if j == 1 then Some (sections.LinkCut 0) else None) ≡ codes "B LINKCUT AT 0\n" }
+    ensures shown { show_state (codes "B") (Following (codes "A")) second_made ≡ codes "B STATE FOLLOWING A LENGTH 0\n" }
+{}
+
+/// A ROLLBACK sets those back that follow its site, and a SWITCH is refused before anything is done.
+pub fn switching_holds()
+    ensures back { set_back_on (codes "A") (second_place (Following (codes "A"))).site ≡ (second_place (Waiting (codes "A"))).site }
+    ensures not_back { set_back_on (codes "C") (second_place (Following (codes "A"))).site ≡ (second_place (Following (codes "A"))).site }
+    ensures fault { (q : Place) → SetsBack (codes "A") (DiskFault 1) (second_place (Following (codes "A"))) q → q.site ≡ (second_place (Waiting (codes "A"))).site }
+    ensures not_primary { refusal (of_places (down_place made ∷ second_place (Following (codes "A")) ∷ [])) (Switch (codes "A") (codes "B")) ≡ Some (record { site = codes "A"; cause = NotPrimary }) }
+    ensures not_following { refusal (of_places (primary_place true made ∷ second_place (Waiting (codes "A")) ∷ [])) (Switch (codes "A") (codes "B")) ≡ Some (record { site = codes "B"; cause = NotFollowing }) }
+    ensures taken { refusal (of_places (primary_place true made ∷ second_place (Following (codes "A")) ∷ [])) (Switch (codes "A") (codes "B")) ≡ None }
+    ensures fetching { refusal (of_places (second_place Down ∷ down_place made ∷ [])) (Fetchresync (codes "B") (codes "A")) ≡ Some (record { site = codes "A"; cause = NotPrimary }) }
+    // all that isn't shared goes
+    ensures fetched { (q : Place) (text : List ℕ) → Here (fetch true (primary_place true reigned_once) (codes "A") (down_place two_entries)) Done q text → q.now.sequence ≡ [] }
 {}

@@ -5,7 +5,8 @@
 mod laws;
 
 pub use laws::{
-    attaching_holds, causes_hold, epochs_hold, extracting_holds, images_are_needed,
-    leftovers_are_written, mapping_holds, output_holds, recovering_holds, refusals_hold,
-    rolling_holds, setting_holds, shown_bytes_decide, typing_holds,
+    attaching_holds, causes_hold, connecting_holds, epochs_hold, extracting_holds, feeding_holds,
+    following_holds, images_are_needed, leftovers_are_written, mapping_holds, output_holds,
+    recovering_holds, refusals_hold, rolling_holds, setting_holds, shown_bytes_decide,
+    switching_holds, typing_holds,
 };

@@ -1,5 +1,5 @@
 -- Lists of places beside one another.
-use Rattle.std.proofs.Common.{◌≡◌, ℕ, zero, suc, List, [], ◌∷◌, Some, slice_get, refl, subst}
+use Rattle.std.proofs.Common.{◌≡◌, ℕ, zero, suc, List, [], ◌∷◌, Some, slice_get, refl, ap, subst}
 use Rattle.std.specs.List.{AllByRecursion}
 use Rattle.global_defs.specs.Beside.{Along, At}
 use Rattle.world_defs.specs.World.{Place}
@@ -41,6 +41,12 @@ along_keeps R I J f (p ∷ ps) (q ∷ qs) h k = (f p q h.0 k.0, along_keeps R I 
 pub same_place : (x p : Place) → Some x ≡ Some p → x ≡ p
 same_place x p e = cc
 
+pub along_elsewhere : (S : ℕ → Place → Place → Type 0) (j : ℕ) (x : Place) (ps qs : List Place) → Along S ps qs → slice_get ps j ≡ Some x → (y : Place) × S j x y × (slice_get qs j ≡ Some y)
+along_elsewhere S j x [] qs h e = cc
+along_elsewhere S j x (p ∷ ps) [] h e = absurd h
+along_elsewhere S zero x (p ∷ ps) (q ∷ qs) h e = (q, subst (λ (z : Place). S zero z q) (same_place p x e) h.0, refl)
+along_elsewhere S (suc j) x (p ∷ ps) (q ∷ qs) h e = along_elsewhere (λ k. S (suc k)) j x ps qs h.1 e
+
 pub along_there : (R : Place → Place → Type 0) (i : ℕ) (p q : Place) (ps qs : List Place) → Along (λ j. R) ps qs → slice_get ps i ≡ Some p → slice_get qs i ≡ Some q → R p q
 along_there R i p q [] qs h e f = cc
 along_there R i p q (x ∷ ps) [] h e f = absurd h
@@ -54,6 +60,16 @@ along_finds R i p [] (q ∷ qs) h e = absurd h
 along_finds R i p (x ∷ ps) [] h e = absurd h
 along_finds R zero p (x ∷ ps) (q ∷ qs) h e = (x, refl)
 along_finds R (suc i) p (x ∷ ps) (q ∷ qs) h e = along_finds R i p ps qs h.1 e
+
+-- a place beside the one at that number
+pub at_elsewhere : (P : Place → Place → Type 0) (S : ℕ → Place → Place → Type 0) (i j : ℕ) (x : Place) (ps qs : List Place) → At i P S ps qs → (j ≡ i → ⊥) → slice_get ps j ≡ Some x → (y : Place) × S j x y × (slice_get qs j ≡ Some y)
+at_elsewhere P S i j x [] [] h n e = absurd h
+at_elsewhere P S i j x [] (q ∷ qs) h n e = absurd h
+at_elsewhere P S i j x (p ∷ ps) [] h n e = absurd h
+at_elsewhere P S zero zero x (p ∷ ps) (q ∷ qs) h n e = absurd (n refl)
+at_elsewhere P S zero (suc j) x (p ∷ ps) (q ∷ qs) h n e = along_elsewhere (λ k. S (suc k)) j x ps qs h.1 e
+at_elsewhere P S (suc i) zero x (p ∷ ps) (q ∷ qs) h n e = (q, subst (λ (z : Place). S zero z q) (same_place p x e) h.0, refl)
+at_elsewhere P S (suc i) (suc j) x (p ∷ ps) (q ∷ qs) h n e = at_elsewhere P (λ k. S (suc k)) i j x ps qs h.1 (λ same. n (ap suc same)) e
 
 pub at_there : (P : Place → Place → Type 0) (S : ℕ → Place → Place → Type 0) (i : ℕ) (p q : Place) (ps qs : List Place) → At i P S ps qs → slice_get ps i ≡ Some p → slice_get qs i ≡ Some q → P p q
 at_there P S i p q [] [] h e f = absurd h

@@ -1,5 +1,5 @@
 -- What keeps the entries of a place.
-use Rattle.std.proofs.Common.{◌≡◌, inl, inr, ℕ, suc, ◌+◌, ◌-◌, ◌<◌, Bool, true, List, [], ◌∷◌, length, take, Option, Some, None, slice_get, IsTrue, sym, ap, subst, arith}
+use Rattle.std.proofs.Common.{◌≡◌, inl, inr, ℕ, suc, ◌+◌, ◌-◌, ◌<◌, Bool, true, false, List, [], ◌∷◌, length, take, drop, Option, Some, None, slice_get, IsTrue, sym, ap, subst, arith}
 use Rattle.std.proofs.lemmas.Bool.{false≢true}
 use Rattle.std.proofs.lemmas.Option.{slice_get_within}
 use Rattle.global_defs.specs.Entry.{Stamp, Entry, Sequence}
@@ -12,14 +12,19 @@ use Rattle.site_defs.specs.Lists.{Among}
 use Rattle.site_defs.specs.Epochs.{MayMark}
 use Rattle.site_defs.specs.Forward.{MayRecoverAs}
 use Rattle.site_defs.specs.Opening.{MayMap, MayBegin, MaySetMode}
-use Rattle.world_defs.specs.World.{State, Down, Failed, Site, Place, Covers, Kept, is_free}
-use Rattle.world_defs.specs.Answers.{Section}
+use Rattle.world_defs.specs.World.{State, Down, Failed, Site, Place, World, Covers, KeptAs, Kept, is_free}
+use Rattle.world_defs.specs.Sections.{Section}
 use Rattle.world_defs.specs.Changes.{in_new_state, Stays, Becomes, Fails, FailsUnchanged, ChangesUnknown}
 use Rattle.world_defs.specs.rows.Crash.{Crashes}
 use Rattle.world_defs.specs.rows.Rollback.{MayRollBackTo, RollsBack, stay, stay_of}
+use Rattle.feeding_defs.specs.Feeding.{MayTakeOf, joined}
+use Rattle.world_defs.specs.rows.Feed.{Takes}
 use Rattle.world_defs.specs.rows.Run as rows
+use Rattle.global_defs.proofs.Lists.{get-append}
+use Rattle.std.proofs.Math.Seq.{take-length}
 use Rattle.world_defs.specs.rows.Run.{RunsTo, IsPicked, one_further}
 use Rattle.world_defs.specs.rows.SetJournal.{SetsMode}
+use Rattle.world_defs.specs.rows.Start.{MayStart}
 use Rattle.world_laws.specs.Entries.{IsEntryAt, IsSiteOf, HasEntry, Every, KeepsEntriesOf}
 use Rattle.world_laws.proofs.Turns.{GoesOn, goes-serial, goes-further, get-front}
 
@@ -47,12 +52,16 @@ pub site-new : (name : Name) (state : State) (o : Option Site) → IsSiteOf name
 site-new name state None h = h
 site-new name state (Some site) h = h
 
-pub entries-kept : (x y : Place) → Kept x y → KeepsEntries x y
-entries-kept x y k name n e every h = record {
-  site = subst (IsSiteOf name) (sym k.site) h.site;
+-- where its state may be another one
+pub entries-kept_as : (site : Option Site) (x y : Place) → ((name : Name) → IsSiteOf name x.site → IsSiteOf name site) → KeptAs site x y → KeepsEntries x y
+entries-kept_as site x y named k name n e every h = record {
+  site = subst (IsSiteOf name) (sym k.site) (named name h.site);
   now = λ t. subst (HasAt n e) (sym k.now) (h.now (subst IsTrue k.known.told t));
   outcomes = λ t o a. h.outcomes (subst IsTrue k.known.told t) o (k.known.outcomes o a);
 }
+
+pub entries-kept : (x y : Place) → Kept x y → KeepsEntries x y
+entries-kept x y k = entries-kept_as x.site x y (λ name h. h) k
 
 pub entries-changed : (x y : Place) → ChangesUnknown x y → KeepsEntries x y
 entries-changed x y c name n e every h = record {
@@ -108,7 +117,7 @@ pub same-map : (region : Name) (text : List ℕ) → LeavesSequence (MayMap regi
 same-map region text c o (inl e) = ap (λ (x : Contents). x.sequence) e
 same-map region text c o (inr h) = ap (λ (x : Contents). x.sequence) h.2
 
-pub same-begin : (name : Name) (broken : List ℕ) → LeavesSequence (MayBegin name broken)
+same-begin : (name : Name) (broken : List ℕ) → LeavesSequence (MayBegin name broken)
 same-begin name broken c o (inl (inl e)) = ap (λ (x : Contents). x.sequence) e
 same-begin name broken c o (inl (inr h)) = ap (λ (x : Contents). x.sequence) h.1
 same-begin name broken c o (inr e) = ap (λ (x : Contents). x.sequence) e
@@ -126,6 +135,10 @@ same-recover anew broken c o (inl (inl e)) = ap (λ (x : Contents). x.sequence) 
 same-recover anew broken c o (inl (inr h)) = ap (λ (x : Contents). x.sequence) h.1
 same-recover anew broken c o (inr (inl e)) = ap (λ (x : Contents). x.sequence) e
 same-recover anew broken c o (inr (inr h)) = ap (λ (x : Contents). x.sequence) h.1
+
+pub same-start : (name : Name) (broken : List ℕ) → LeavesSequence (MayStart name broken)
+same-start name broken c o (inl begins) = same-begin name broken c o begins
+same-start name broken c o (inr past) = same-recover false broken c o past.1
 
 same-covered : LeavesSequence Covers
 same-covered o c (inl e) = ap (λ (x : Contents). x.sequence) e
@@ -163,16 +176,21 @@ at-front all seq c o n e more is f =
     let within = slice_get_within seq (n - 1) e is.there in
     subst (HasAt n e) (sym f.is) (record { number = is.number; there = get-front f.count all (n - 1) e (omega (arith, f.least)) (more (n - 1) e is.there) })
 
-pub turn-left : (stamp : Stamp) (next : List ℕ) (jobs : List (List Job)) (order picks : List ℕ) (fault : Option ℕ) (p q : Place) → IsPicked fault order picks
+-- the picks are the first ones
+pub as-front : (feeds : Bool) (k : ℕ) (order picks : List ℕ) → IsPicked feeds (Some k) order picks → picks ≡ take (length picks) order
+as-front feeds k order picks (inl h) = h.1
+as-front feeds k order picks (inr h) = subst (λ (l : List ℕ). picks ≡ take (length picks) l) h.1 (sym (take-length picks))
+
+pub turn-left : (feeds : Bool) (stamp : Stamp) (next : List ℕ) (jobs : List (List Job)) (order picks : List ℕ) (fault : Option ℕ) (p q : Place) → IsPicked feeds fault order picks
     → RunsTo stamp (turn_of stamp next jobs picks p.now.sequence) (turn_of stamp next jobs (one_further order picks) p.now.sequence) fault p q
     → HasTurn (turn_of stamp next jobs picks p.now.sequence) p q
-turn-left stamp next jobs order picks None p q picked r = record {
+turn-left feeds stamp next jobs order picks None p q picked r = record {
   told = r.becomes.known.told;
   site = λ name h. subst (IsSiteOf name) (sym r.becomes.site) (site-new name _ p.site h);
   now = λ n e t is. subst (HasAt n e) (sym r.becomes.known.now) is;
   outcomes = λ n e t is o a. subst (HasAt n e) (sym (only_one o _ (subst (λ (l : List Contents). Among l o) r.becomes.known.outcomes a))) is;
 }
-turn-left stamp next jobs order picks (Some k) p q picked r = record {
+turn-left feeds stamp next jobs order picks (Some k) p q picked r = record {
   told = r.known.told;
   site = λ name h. subst (IsSiteOf name) (sym r.site) (site-new name (Failed k) p.site h);
   now = λ n e t is. let a = r.known.now (subst IsTrue r.known.told t) in at-front further.sequence own.sequence p.now q.now n e goes.entries is a.2;
@@ -189,27 +207,53 @@ turn-left stamp next jobs order picks (Some k) p q picked r = record {
     one = omega arith
 
     goes : GoesOn own further
-    goes = subst (λ (l : List ℕ). GoesOn (turn_of stamp next jobs l p.now.sequence) further) (sym picked.1)
+    goes = subst (λ (l : List ℕ). GoesOn (turn_of stamp next jobs l p.now.sequence) further) (sym (as-front feeds k order picks picked))
         (subst (λ (n : ℕ). GoesOn (turn_of stamp next jobs (take (length picks) order) p.now.sequence) (turn_of stamp next jobs (take n order) p.now.sequence)) one
         (goes-further stamp (length picks) order (begun next jobs p.now.sequence)))
 
-pub ran-left : (name : Name) (jobs : List (List Job)) (order : List ℕ) (s : Section) (p q : Place) → (r : rows.Runs name jobs order s p q) → HasTurn (turn_of r.stamp r.serials jobs s.picks p.now.sequence) p q
-ran-left name jobs order s p q r = turn-left r.stamp r.serials jobs order s.picks s.fault p q r.picks r.ran
+pub ran-left : (w : World) (name : Name) (jobs : List (List Job)) (order : List ℕ) (s : Section) (p q : Place) → (r : rows.Runs w name jobs order s p q) → HasTurn (turn_of r.stamp r.serials jobs s.picks p.now.sequence) p q
+ran-left w name jobs order s p q r = turn-left (rows.feeds_any w name) r.stamp r.serials jobs order s.picks s.fault p q r.picks r.ran
 
-pub entries-ran : (own : Name) (jobs : List (List Job)) (order : List ℕ) (s : Section) (p q : Place) → rows.Runs own jobs order s p q → KeepsEntries p q
-entries-ran own jobs order s p q r name n e every h = record {
+pub entries-ran : (w : World) (own : Name) (jobs : List (List Job)) (order : List ℕ) (s : Section) (p q : Place) → rows.Runs w own jobs order s p q → KeepsEntries p q
+entries-ran w own jobs order s p q r name n e every h = record {
   site = left.site name h.site;
   now = λ t. left.now n e t (there t);
   outcomes = λ t. left.outcomes n e t (there t);
 }
   where
     left : HasTurn (turn_of r.stamp r.serials jobs s.picks p.now.sequence) p q
-    left = ran-left own jobs order s p q r
+    left = ran-left w own jobs order s p q r
 
     there : IsTrue q.told → IsEntryAt n e (turn_of r.stamp r.serials jobs s.picks p.now.sequence).sequence
     there t =
         let is = h.now (subst IsTrue left.told t) in
         record { number = is.number; there = (goes-serial r.stamp s.picks (begun r.serials jobs p.now.sequence)).entries (n - 1) e is.there }
+
+-- a follower
+
+-- what is taken stands behind what there was
+pub at-joined : (all : Sequence) (m n : ℕ) (e : Entry) (own : Sequence) → IsEntryAt n e own → IsEntryAt n e (joined all m own)
+at-joined all m n e own is = record { number = is.number; there = get-append own (drop (length own) (take m all)) (n - 1) e is.there }
+
+pub entries-takes : (told : Bool) (from : Contents) (m : ℕ) (site : Option Site) (p q : Place) → ((name : Name) → IsSiteOf name p.site → IsSiteOf name site) → Takes told from m site p q → KeepsEntries p q
+entries-takes told from m site p q named (inl k) = entries-stays site p.now p q named (λ name n e h t. h.now t) k.1
+entries-takes told from m site p q named (inr d) =
+    entries-stays site _ p q named (λ name n e h t. at-joined d.came.entries m n e p.now.sequence (h.now t)) d.becomes
+
+at-may_take : (told : Bool) (from : Contents) (n : ℕ) (e : Entry) (c o : Contents) → MayTakeOf told from c o → IsEntryAt n e c.sequence → IsEntryAt n e o.sequence
+at-may_take told from n e c o (inl same) h = subst (HasAt n e) (sym same) h
+at-may_take told from n e c o (inr (came, (m, fed, inl is), why)) h = subst (HasAt n e) (sym is) (at-joined came.entries m n e c.sequence h)
+at-may_take told from n e c o (inr (came, (m, fed, inr is), why)) h = subst (HasAt n e) (sym is.1) (at-joined came.entries m n e c.sequence h)
+
+pub entries-fed_fails : (told : Bool) (from : Contents) (k : ℕ) (so : Option (List Standing) → Option (List Standing) → Type 0) (p q : Place) → Fails k (in_new_state (Failed k) p.site) (MayTakeOf told from) so p q → KeepsEntries p q
+entries-fed_fails told from k so p q f name n e every h = record {
+  site = subst (IsSiteOf name) (sym f.site) (site-new name (Failed k) p.site h.site);
+  now = λ t. let a = f.known.now (there t) in at-may_take told from n e a.0 q.now a.2 (h.outcomes (there t) a.0 a.1);
+  outcomes = λ t o among. let a = f.known.outcomes (there t) o among in at-may_take told from n e a.0 o a.2 (h.outcomes (there t) a.0 a.1);
+}
+  where
+    there : IsTrue q.told → IsTrue p.told
+    there t = subst IsTrue f.known.told t
 
 -- a place without a site has no entry to lose
 

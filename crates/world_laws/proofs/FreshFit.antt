@@ -2,7 +2,7 @@
 use Rattle.std.proofs.Common.{◌≡◌, List, [], ◌∷◌, map, Option, None, IsTrue, sym, ◌∙◌, subst}
 use Rattle.std.specs.List.{AllByRecursion}
 use Rattle.global_defs.specs.Beside.{Along}
-use Rattle.world_defs.specs.World.{Site, Place, World, IsFresh, Settled}
+use Rattle.world_defs.specs.World.{Links, Site, Place, World, IsFresh, Settled}
 use Rattle.site_defs.specs.Contents.{nothing}
 use Rattle.world_defs.specs.Fit.{IsFitContents, IsFitSite, IsNamedSo, IsFitPlace, IsFit}
 use Rattle.world_laws.specs.Again.{HasFitOutcomes, IsGivenBack}
@@ -42,8 +42,8 @@ fit-without_sites (p ∷ ps) fit = (
   fit-without_sites ps fit.1,
 )
 
-pub fit-again : (w : World) → IsFit w → IsFit (record { places = map without_site w.places })
-fit-again w fit = fit-without_sites w.places fit
+pub fit-again : (w : World) (links : Links) → IsFit w → IsFit (record { places = map without_site w.places; links = links })
+fit-again w links fit = fit-without_sites w.places fit
 
 fit-given_back : (p q : Place) → HasFitOutcomes p → IsGivenBack p q → IsFitPlace q
 fit-given_back p q fit h = fit-free q h.site (λ t. let c = h.now (told t) in fit-covered c.0 q.now c.2 (fit (told t) c.0 c.1)) (λ t o a. fit (told t) o (h.outcomes o a))

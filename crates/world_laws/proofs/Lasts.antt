@@ -4,17 +4,18 @@ use Rattle.disk_defs.specs.Disk.{Rose}
 use Rattle.command_defs.specs.Commands.{Name}
 use Rattle.site_defs.specs.Contents.{Contents, Standing}
 use Rattle.site_defs.specs.Lists.{Among}
-use Rattle.world_defs.specs.World.{Failed, Site, Place, Kept}
+use Rattle.world_defs.specs.World.{Failed, Site, Place, KeptAs, Kept}
 use Rattle.world_defs.specs.Answers.{Answer, DiskFault}
 use Rattle.world_defs.specs.Changes.{in_new_state, Stays, Fails, FailsUnchanged, ChangesUnknown}
-use Rattle.world_defs.specs.Step.{LeftBy, LeavesOld}
+use Rattle.world_defs.specs.Changes.{LeftBy, LeavesOld}
 use Rattle.world_defs.specs.Fit.{IsFitContents, IsNamedSo, IsFitPlace}
 use Rattle.world_laws.specs.Again.{HasFitOutcomes}
-use Rattle.world_laws.specs.Entries.{Every, KeepsEntriesOf}
-use Rattle.world_laws.specs.Faults.{HasNotFallen, TellsFault, TellsNoFault}
+use Rattle.world_laws.specs.Entries.{IsSiteOf, Every, KeepsEntriesOf}
+use Rattle.world_laws.specs.Settled.{IsOpenSite}
+use Rattle.world_laws.specs.Faults.{HasNotFallen, TellsFault}
 use Rattle.world_laws.proofs.PlacesFit.{fit-kept, fit-changed, fit-site_fails, fit-fails_unchanged}
-use Rattle.world_laws.proofs.Opens.{KeepsOpen, open-through, open-kept, open-changed, open-stays, open-failed}
-use Rattle.world_laws.proofs.EntriesStay.{entries-through, entries-some, entries-kept, entries-changed, LeavesSequence, entries-fails, entries-unread}
+use Rattle.world_laws.proofs.Opens.{KeepsOpen, open-through, open-kept_as, open-kept, open-changed, open-stays, open-failed}
+use Rattle.world_laws.proofs.EntriesStay.{entries-through, entries-some, entries-kept_as, entries-kept, entries-changed, LeavesSequence, entries-fails, entries-unread}
 use Rattle.world_laws.proofs.Counts.{later, later_rose, later_through}
 
 -- From a place to what becomes of it. The command has F, and leaves the entries with K, by their sites and numbers.
@@ -50,6 +51,10 @@ module _ (F : Type 0) (K : Name → ℕ → Type 0) where
   pub lasts-kept : (p q : Place) → Kept p q → Lasts F K p q
   lasts-kept p q k = record { fit = λ f h. fit-kept p q k h; while_open = open-kept p q k; entries = entries-some K p q (entries-kept p q k); later = later p q k.faults }
 
+  -- perhaps with another state
+  pub lasts-kept_as : (site : Option Site) (p q : Place) → (IsFitPlace p → IsFitPlace q) → (IsOpenSite site → IsOpenSite p.site) → ((name : Name) → IsSiteOf name p.site → IsSiteOf name site) → KeptAs site p q → Lasts F K p q
+  lasts-kept_as site p q fit same named k = record { fit = λ f h. fit h; while_open = open-kept_as site p q same k; entries = entries-some K p q (entries-kept_as site p q named k); later = later p q k.faults }
+
   pub lasts-changed : (p q : Place) → ChangesUnknown p q → Lasts F K p q
   lasts-changed p q c = record { fit = λ f h. fit-changed p q c; while_open = open-changed p q c; entries = entries-some K p q (entries-changed p q c); later = later p q c.faults }
 
@@ -58,7 +63,7 @@ module _ (F : Type 0) (K : Name → ℕ → Type 0) where
   lasts-stays site c p q fit entries s = record { fit = fit; while_open = open-stays site c p q s; entries = entries; later = later p q s.faults }
 
   -- no fault is told
-  pub quietly : (a : Answer) (p q : Place) → TellsNoFault a → Lasts F K p q → Leaves F K a p q
+  pub quietly : (a : Answer) (p q : Place) → (TellsFault a → ⊥) → Lasts F K p q → Leaves F K a p q
   quietly a p q none l = record { lasts = l; cause = λ t. absurd (none t) }
 
   -- the count rose

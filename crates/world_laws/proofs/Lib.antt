@@ -17,6 +17,8 @@ pub mod Laws
 pub mod RowLaws
 pub mod Builds
 pub mod WorldsFit
+pub mod FedNone
+pub mod Alone
 pub mod FreshFit
 pub mod StandsForOne
 pub mod Settles

@@ -4,13 +4,13 @@ use Rattle.std.specs.Prelude.{IsSomeAnd}
 use Rattle.std.proofs.lemmas.Bool.{false≢true}
 use Rattle.site_defs.specs.Contents.{Contents, Standing, bare}
 use Rattle.site_defs.specs.Lists.{Among}
-use Rattle.world_defs.specs.World.{Down, Failed, Site, Place, Kept, StandAsBefore}
+use Rattle.world_defs.specs.World.{Down, Failed, Site, Place, KeptAs, Kept, StandAsBefore}
 use Rattle.world_defs.specs.Changes.{in_new_state, Stays, ChangesUnknown}
 use Rattle.world_laws.specs.Settled.{IsOpenSite, IsSettledPlace, IsBarePlace}
 use Rattle.world_laws.proofs.EntriesStay.{only_one}
 
-settled-kept : (x y : Place) → Kept x y → IsSettledPlace x → IsSettledPlace y
-settled-kept x y k h = record {
+settled-kept : (site : Option Site) (x y : Place) → (IsOpenSite site → IsOpenSite x.site) → KeptAs site x y → IsSettledPlace x → IsSettledPlace y
+settled-kept site x y same k h = record {
   outcomes = λ t up o a. h.outcomes (told t) (there up) o (k.known.outcomes o a) ∙ sym k.now;
   left = λ t up. k.left ∙ h.left (told t) (there up);
 }
@@ -19,7 +19,7 @@ settled-kept x y k h = record {
     told t = subst IsTrue k.known.told t
 
     there : IsOpenSite y.site → IsOpenSite x.site
-    there up = subst IsOpenSite k.site up
+    there up = same (subst IsOpenSite k.site up)
 
 -- what isn't known stays so
 not_told : (x y : Place) → ChangesUnknown x y → IsTrue y.told → ⊥
@@ -45,8 +45,8 @@ as_bare c d e None y b h = absurd h
 as_bare c d e (Some os) None b h = absurd b
 as_bare c d e (Some os) (Some ns) b h = λ s a. let o = b s a in o.2 ∙ h o.0 o.1 ∙ ap bare e
 
-bare-kept : (x y : Place) → Kept x y → IsBarePlace x → IsBarePlace y
-bare-kept x y k h t up = as_bare x.now y.now (sym k.now) x.standings y.standings (k.known.standings told) (h told (subst IsOpenSite k.site up))
+bare-kept : (site : Option Site) (x y : Place) → (IsOpenSite site → IsOpenSite x.site) → KeptAs site x y → IsBarePlace x → IsBarePlace y
+bare-kept site x y same k h t up = as_bare x.now y.now (sym k.now) x.standings y.standings (k.known.standings told) (h told (same (subst IsOpenSite k.site up)))
   where
     told : IsTrue x.told
     told = subst IsTrue k.known.told t
@@ -81,8 +81,12 @@ pub record KeepsOpen (p q : Place) : Type 0 where
 pub open-through : (x y z : Place) → KeepsOpen x y → KeepsOpen y z → KeepsOpen x z
 open-through x y z h k = record { settled = λ s. k.settled (h.settled s); bare = λ b. k.bare (h.bare b) }
 
+-- perhaps with another state
+pub open-kept_as : (site : Option Site) (x y : Place) → (IsOpenSite site → IsOpenSite x.site) → KeptAs site x y → KeepsOpen x y
+open-kept_as site x y same k = record { settled = settled-kept site x y same k; bare = bare-kept site x y same k }
+
 pub open-kept : (x y : Place) → Kept x y → KeepsOpen x y
-open-kept x y k = record { settled = settled-kept x y k; bare = bare-kept x y k }
+open-kept x y k = open-kept_as x.site x y (λ up. up) k
 
 -- files that aren't known changed
 pub open-changed : (x y : Place) → ChangesUnknown x y → KeepsOpen x y

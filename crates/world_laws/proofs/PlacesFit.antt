@@ -5,7 +5,7 @@ use Rattle.global_defs.specs.Region.{Region}
 use Rattle.journal_defs.specs.Instance.{site_name}
 use Rattle.command_defs.specs.Commands.{Name}
 use Rattle.site_defs.specs.Lists.{Among}
-use Rattle.world_defs.specs.World.{State, Down, Primary, Failed, Site, Place, World, Kept}
+use Rattle.world_defs.specs.World.{State, Down, Primary, Following, Waiting, Failed, Site, Place, World, KeptAs, Kept}
 use Rattle.site_defs.specs.Contents.{Contents, Standing}
 use Rattle.site_defs.specs.Epochs.{MayMark, marked}
 use Rattle.site_defs.specs.Opening.{MayMap, MaySetMode, with_pattern, with_mode}
@@ -33,10 +33,14 @@ fit-place old new site c same site_is now_is now outcomes = record {
     told : IsTrue new.told → IsTrue old.told
     told t = subst IsTrue same t
 
+-- perhaps with another state
+pub fit-kept_as : (site : Option Site) (old new : Place) → ((c : Contents) → IsNamedSo old.site c → IsNamedSo site c) → ((c : Contents) → IsFitSite old.site c → IsFitSite site c) → KeptAs site old new → IsFitPlace old → IsFitPlace new
+fit-kept_as site old new named fit k h =
+    fit-place old new site old.now k.known.told k.site k.now (λ t. (h.now t, named old.now (h.named_now t), fit old.now (h.site t)))
+    (λ t o a. (h.outcomes t o (k.known.outcomes o a), named o (h.named t o (k.known.outcomes o a))))
+
 pub fit-kept : (old new : Place) → Kept old new → IsFitPlace old → IsFitPlace new
-fit-kept old new k h =
-    fit-place old new old.site old.now k.known.told k.site k.now (λ t. (h.now t, h.named_now t, h.site t))
-    (λ t o a. (h.outcomes t o (k.known.outcomes o a), h.named t o (k.known.outcomes o a)))
+fit-kept old new k h = fit-kept_as old.site old new (λ c n. n) (λ c f. f) k h
 
 pub fit-changed : (old new : Place) → ChangesUnknown old new → IsFitPlace new
 fit-changed old new c = record {
@@ -113,6 +117,8 @@ fit-sets region before old new h r =
 fit-state_marked : (name : Name) (state : State) (c : Contents) → IsFitState name state c → IsFitState name state (marked c)
 fit-state_marked name Down c h = tt
 fit-state_marked name (Primary stamp serials) c h = record { root = h.root; cycle = h.cycle; room = h.room; updaters = h.updaters; next = h.next }
+fit-state_marked name (Following primary) c h = tt
+fit-state_marked name (Waiting primary) c h = tt
 fit-state_marked name (Failed k) c h = tt
 
 fit-site_marked : (site : Option Site) (c : Contents) → IsFitSite site c → IsFitSite site (marked c)

@@ -80,9 +80,3 @@ pub fit-begins_some : (name : Name) (old : Place) → IsFitPlace old → IsTrue 
 fit-begins_some name old h t c o a m =
     let broken : List ℕ = old.left.broken in
     (fit-may_begin name broken c o (h.outcomes t c a) m, named-same old.site c o (name-may_begin name broken c o m) (h.named t c a))
-
--- a START that is refused past the limit of reigns
-pub fit-refused : (old new : Place) → IsFitPlace old → Becomes Down (opened old.left.broken old.now) old new → IsFitPlace new
-fit-refused old new h r =
-    let broken : List ℕ = old.left.broken in
-    fit-stops (opened broken old.now) old new (λ t. (fit-opened broken old.now (h.now t), named-same old.site old.now (opened broken old.now) (name-cut broken [] old.now) (h.named_now t))) r

@@ -1,5 +1,5 @@
 -- What ROLLBACK and RECOVER keep at their place: a front of the sequence is as fit, and a CUT more leaves no more reigns.
-use Rattle.std.proofs.Common.{◌≡◌, inl, inr, ℕ, ◌+◌, ◌≤◌, Bool, List, [], length, take, true, IsTrue, refl, sym, ◌∙◌, ap, subst, arith}
+use Rattle.std.proofs.Common.{◌≡◌, inl, inr, ℕ, ◌+◌, ◌≤◌, Bool, List, [], length, take, true, false, Option, Some, None, IsTrue, refl, sym, ◌∙◌, ap, subst, arith}
 use Rattle.global_defs.specs.declared.limits.TheConstants.{MOST_REIGNS}
 use Rattle.journal_defs.specs.Instance as records
 use Rattle.journal_defs.specs.Instance.{generation, greatest_cycle, site_name, regions}
@@ -7,17 +7,22 @@ use Rattle.journal_defs.specs.Surviving.{reigns}
 use Rattle.site_defs.specs.Contents.{Contents}
 use Rattle.site_defs.specs.Forward.{MayRecoverAs, opened_as, recovered_as}
 use Rattle.site_defs.specs.Lists.{Among}
-use Rattle.site_defs.specs.Opening.{cut_with}
+use Rattle.site_defs.specs.Opening.{cut_with, opened}
 use Rattle.site_defs.specs.Rolling.{MayRollBack, lost_text, cut_to, kept_first, rolled_open, rolled}
-use Rattle.world_defs.specs.World.{Place}
+use Rattle.world_defs.specs.World.{Down, Following, Site, Place}
+use Rattle.world_defs.specs.Changes.{in_new_state, Becomes}
+use Rattle.command_defs.specs.Commands.{Name}
+use Rattle.world_defs.specs.rows.Follow.{Follows, IsClosed}
+use Rattle.world_defs.specs.rows.Start.{MayStart}
 use Rattle.world_defs.specs.rows.Recover.{Recovers}
 use Rattle.world_defs.specs.rows.Rollback.{MayRollBackTo, RollsBack, stay_of}
-use Rattle.world_defs.specs.Fit.{IsWithinCycles, IsFitContents, IsNamedSo, IsFitPlace}
+use Rattle.world_defs.specs.Fit.{IsWithinCycles, IsFitContents, IsFitSite, IsNamedSo, IsFitPlace}
 use Rattle.world_laws.proofs.Lists.{all-weaker, all-front}
 use Rattle.world_laws.proofs.Instances.{name-more, cycle-same, room-cut, few_at}
 use Rattle.world_laws.proofs.SerialRuns.{rise-front}
-use Rattle.world_laws.proofs.ContentsFit.{name-cut, fit-cut, fit-with_starts, fit-opened_as, fit-may_open_as, name-may_open_as, fit-epochs, fit-may_mark, name-may_mark}
-use Rattle.world_laws.proofs.PlacesFit.{named-same, fit-stops}
+use Rattle.world_laws.proofs.ContentsFit.{name-cut, fit-cut, fit-opened, fit-with_starts, fit-opened_as, fit-may_open_as, name-may_open_as, fit-epochs, fit-may_mark, name-may_mark}
+use Rattle.world_laws.proofs.ReignsFit.{fit-begins_some}
+use Rattle.world_laws.proofs.PlacesFit.{named-same, fit-becomes, fit-stops}
 
 -- a CUT to the first entries
 name-cut_to : (t : ℕ) (c : Contents) → site_name (cut_to t c).instance ≡ site_name c.instance
@@ -82,6 +87,34 @@ fit-rolls_some number old h t c o a m = (
   named-same old.site c o (name-may_roll (stay_of number c) old.left.broken c o m) (h.named t c a),
 )
 
+fit-closed_as : (anew : Bool) (read : Contents) (broken : List ℕ) (old new : Place) → IsFitPlace old → (IsTrue old.told → read ≡ old.now) → Becomes Down (recovered_as anew broken read) old new → IsFitPlace new
+fit-closed_as anew read broken old new h before becomes =
+    fit-stops (recovered_as anew broken read) old new
+    (λ t. subst (λ (c : Contents). IsFitContents (recovered_as anew broken c) × IsNamedSo old.site (recovered_as anew broken c)) (sym (before t)) (
+      fit-epochs (λ r. true) (opened_as anew broken old.now) (fit-opened_as anew broken old.now (h.now t)),
+      named-same old.site old.now (recovered_as anew broken old.now) (name-cut broken [] old.now) (h.named_now t),
+    ))
+    becomes
+
+-- what was opened is closed again
+pub fit-closed : (P : Contents → Type 0) (old new : Place) → IsFitPlace old → IsClosed P old new → IsFitPlace new
+fit-closed P old new h r = fit-closed_as false r.read r.broken old new h r.from.as_before r.becomes
+
+-- or follows another site
+fit-following : (primary : Name) (o : Option Site) (c : Contents) → IsFitSite (in_new_state (Following primary) o) c
+fit-following primary None c = tt
+fit-following primary (Some site) c = tt
+
+pub fit-follows : (told : Bool) (primary : Name) (of : Contents) (old new : Place) → IsFitPlace old → Follows told primary of old new → IsFitPlace new
+fit-follows told primary of old new h r =
+    fit-becomes (Following primary) (opened r.broken r.read) old new
+    (λ t. subst (λ (c : Contents). IsFitContents (opened r.broken c) × IsNamedSo old.site (opened r.broken c) × IsFitSite (in_new_state (Following primary) old.site) (opened r.broken c)) (sym (r.from.as_before t)) (
+      fit-opened r.broken old.now (h.now t),
+      named-same old.site old.now (opened r.broken old.now) (name-cut r.broken [] old.now) (h.named_now t),
+      fit-following primary old.site (opened r.broken old.now),
+    ))
+    r.becomes
+
 pub fit-recovers : (anew : Bool) (old new : Place) → IsFitPlace old → Recovers anew old new → IsFitPlace new
 fit-recovers anew old new h r =
     fit-stops (recovered_as anew r.broken r.read) old new
@@ -93,3 +126,16 @@ fit-recovers anew old new h r =
 
 pub fit-recovers_some : (anew : Bool) (old : Place) → IsFitPlace old → IsTrue old.told → (c o : Contents) → Among old.outcomes c → MayRecoverAs anew old.left.broken c o → IsFitContents o × IsNamedSo old.site o
 fit-recovers_some anew old h t c o a m = (fit-may_recover anew old.left.broken c o (h.outcomes t c a) m, named-same old.site c o (name-may_recover anew old.left.broken c o m) (h.named t c a))
+
+-- a START that is refused past the limit of reigns
+pub fit-refused : (old new : Place) → IsFitPlace old → Becomes Down (recovered_as false old.left.broken old.now) old new → IsFitPlace new
+fit-refused old new h r =
+    let broken : List ℕ = old.left.broken in
+    fit-stops (recovered_as false broken old.now) old new (λ t. (
+      fit-epochs (λ r. true) (opened_as false broken old.now) (fit-opened_as false broken old.now (h.now t)),
+      named-same old.site old.now (recovered_as false broken old.now) (name-cut broken [] old.now) (h.named_now t),
+    )) r
+
+pub fit-starts_some : (name : Name) (old : Place) → IsFitPlace old → IsTrue old.told → (c o : Contents) → Among old.outcomes c → MayStart name old.left.broken c o → IsFitContents o × IsNamedSo old.site o
+fit-starts_some name old h t c o a (inl begins) = fit-begins_some name old h t c o a begins
+fit-starts_some name old h t c o a (inr past) = fit-recovers_some false old h t c o a past.1

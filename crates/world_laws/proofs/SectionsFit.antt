@@ -1,5 +1,5 @@
 -- What RUN keeps at its place.
-use Rattle.std.proofs.Common.{◌≡◌, ℕ, ◌+◌, ◌≤◌, true, List, length, take, Option, Some, None, IsTrue, refl, sym, ◌∙◌, ap, subst}
+use Rattle.std.proofs.Common.{◌≡◌, ℕ, ◌+◌, ◌≤◌, Bool, true, List, length, take, Option, Some, None, IsTrue, refl, sym, ◌∙◌, ap, subst}
 use Rattle.std.specs.List.{list_all}
 use Rattle.global_defs.specs.declared.limits.TheConstants.{MOST_REIGNS}
 use Rattle.global_defs.specs.Entry.{Stamp, Sequence}
@@ -9,27 +9,28 @@ use Rattle.journal_defs.specs.Instance.{greatest_cycle, site_name}
 use Rattle.journal_defs.specs.Surviving.{reigns}
 use Rattle.command_defs.specs.Commands.{Name}
 use Rattle.command_defs.specs.Updaters.{is_updater}
-use Rattle.world_defs.specs.World.{State, Down, Primary, Failed, Site, Place}
+use Rattle.world_defs.specs.World.{State, Down, Primary, Following, Waiting, Failed, Site, Place, World}
 use Rattle.site_defs.specs.Contents.{Contents}
-use Rattle.world_defs.specs.Answers.{Section}
+use Rattle.world_defs.specs.Sections.{Section}
 use Rattle.world_defs.specs.Changes.{in_new_state}
 use Rattle.site_defs.specs.Fronts.{IsFrontOf, with_sequence, turn_of}
-use Rattle.world_defs.specs.rows.Run.{Runs, RunsTo, IsPicked, one_further, RunMayLeave, RunMayLeaveOn}
+use Rattle.world_defs.specs.rows.Run.{Runs, RunsTo, IsPicked, feeds_any, one_further, RunMayLeave, RunMayLeaveOn}
 use Rattle.world_defs.specs.Fit.{IsFitContents, IsFitReign, IsFitSite, IsNamedSo, IsFitPlace}
 use Rattle.world_laws.proofs.Lists.{all-front}
+use Rattle.world_laws.proofs.EntriesStay.{as-front}
 use Rattle.world_laws.proofs.Instances.{few_at}
 use Rattle.world_laws.proofs.SerialRuns.{IsGoing, IsOf, going-serial, updaters-front, rise-front}
 use Rattle.world_laws.proofs.PlacesFit.{fit-becomes, fit-site_fails, named-same}
 
 -- the entries of a section, with a site's cycles
-abbrev Goes : Contents → Stamp → List ℕ → Sequence → Type 0
+abbrev pub Goes : Contents → Stamp → List ℕ → Sequence → Type 0
 Goes c stamp next seq = IsGoing (site_name c.instance) (greatest_cycle c.instance) stamp next seq
 
 begins : (name : Name) (c : Contents) (stamp : Stamp) (next : List ℕ) → IsFitContents c → IsFitReign name stamp next c → Goes c stamp next c.sequence
 begins name c stamp next h r = record { rise = h.serials; within = h.cycles; updaters = r.updaters; before = r.next }
 
 -- all entries that a section's picks lead to
-goes : (name : Name) (c : Contents) (stamp : Stamp) (next : List ℕ) (jobs : List (List Job)) (picks : List ℕ) → list_all is_updater picks ≡ true → IsFitContents c → IsFitReign name stamp next c
+pub goes : (name : Name) (c : Contents) (stamp : Stamp) (next : List ℕ) (jobs : List (List Job)) (picks : List ℕ) → list_all is_updater picks ≡ true → IsFitContents c → IsFitReign name stamp next c
     → Goes c stamp (turn_of stamp next jobs picks c.sequence).serials (turn_of stamp next jobs picks c.sequence).sequence
 goes name c stamp next jobs picks updaters h r =
     going-serial (site_name c.instance) (greatest_cycle c.instance) stamp picks (begun next jobs c.sequence) r.cycle updaters (begins name c stamp next h r)
@@ -67,21 +68,21 @@ fit-ran stamp name next t further (Some k) old new is h fit r =
       front-named old.site further.sequence (length t.sequence) old.now o (h.named_now told) front,
     )) r
 
-updaters-picked : (fault : Option ℕ) (order picks : List ℕ) → list_all is_updater order ≡ true → IsPicked fault order picks → list_all is_updater picks ≡ true
-updaters-picked None order picks h p = ap (list_all is_updater) p ∙ h
-updaters-picked (Some k) order picks h p = ap (list_all is_updater) p.1 ∙ updaters-front (length picks) order h
+pub updaters-picked : (feeds : Bool) (fault : Option ℕ) (order picks : List ℕ) → list_all is_updater order ≡ true → IsPicked feeds fault order picks → list_all is_updater picks ≡ true
+updaters-picked feeds None order picks h p = ap (list_all is_updater) p ∙ h
+updaters-picked feeds (Some k) order picks h p = ap (list_all is_updater) (as-front feeds k order picks p) ∙ updaters-front (length picks) order h
 
 -- the reign of a primary
-reign-at : (name : Name) (stamp : Stamp) (next : List ℕ) (p : Place) → p.site ≡ Some (record { name = name; state = Primary stamp next }) → IsFitPlace p → IsTrue p.told → IsFitReign name stamp next p.now
+pub reign-at : (name : Name) (stamp : Stamp) (next : List ℕ) (p : Place) → p.site ≡ Some (record { name = name; state = Primary stamp next }) → IsFitPlace p → IsTrue p.told → IsFitReign name stamp next p.now
 reign-at name stamp next p is h t = subst (λ (o : Option Site). IsFitSite o p.now) is (h.site t)
 
-pub fit-runs : (name : Name) (jobs : List (List Job)) (order : List ℕ) (s : Section) (old new : Place) → list_all is_updater order ≡ true → IsFitPlace old
-    → Runs name jobs order s old new → IsFitPlace new
-fit-runs name jobs order s old new updaters h r =
+pub fit-runs : (w : World) (name : Name) (jobs : List (List Job)) (order : List ℕ) (s : Section) (old new : Place) → list_all is_updater order ≡ true → IsFitPlace old
+    → Runs w name jobs order s old new → IsFitPlace new
+fit-runs w name jobs order s old new updaters h r =
     fit-ran r.stamp name r.serials (turn_of r.stamp r.serials jobs s.picks old.now.sequence) (turn_of r.stamp r.serials jobs (one_further order s.picks) old.now.sequence) s.fault old new r.state h
     (λ t. let reign = reign-at name r.stamp r.serials old r.state h t in (
       reign,
-      goes name old.now r.stamp r.serials jobs s.picks (updaters-picked s.fault order s.picks updaters r.picks) (h.now t) reign,
+      goes name old.now r.stamp r.serials jobs s.picks (updaters-picked (feeds_any w name) s.fault order s.picks updaters r.picks) (h.now t) reign,
       goes name old.now r.stamp r.serials jobs (one_further order s.picks) (updaters-front (length s.picks + 1) order updaters) (h.now t) reign,
     ))
     r.ran
@@ -91,6 +92,8 @@ fit-runs name jobs order s old new updaters h r =
 run_may_leave : (name : Name) (state : State) (jobs : List (List Job)) (order : List ℕ) (p : Place) (o : Contents) → p.site ≡ Some (record { name = name; state = state })
     → list_all is_updater order ≡ true → IsFitPlace p → IsTrue p.told → RunMayLeave state jobs order p o → IsFitContents o
 run_may_leave name Down jobs order p o is updaters f t h = absurd h
+run_may_leave name (Following primary) jobs order p o is updaters f t h = absurd h
+run_may_leave name (Waiting primary) jobs order p o is updaters f t h = absurd h
 run_may_leave name (Failed k) jobs order p o is updaters f t h = absurd h
 run_may_leave name (Primary stamp next) jobs order p o is updaters f t h =
     let reign = reign-at name stamp next p is f t in

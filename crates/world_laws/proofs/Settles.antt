@@ -1,7 +1,8 @@
 -- Open sites are settled, and nothing lies behind in any of their images.
 use Rattle.std.proofs.Common.{◌≡◌, ℕ, List, [], ◌∷◌, None, sym, subst}
 use Rattle.std.specs.List.{AllByRecursion}
-use Rattle.command_defs.specs.Commands.{Command, IsFormed}
+use Rattle.command_defs.specs.Commands.{Command}
+use Rattle.world_laws.specs.Fed.{KeepsFit}
 use Rattle.world_defs.specs.World.{Place, World, IsFresh}
 use Rattle.world_defs.specs.Answers.{Answer}
 use Rattle.world_defs.specs.Step.{Step}
@@ -29,13 +30,13 @@ module _ (I : Place → Type 0) (step : (w m : World) (c : Command) (answers : L
   holds_behind w m told text f h = behind w m told text (fresh w.places f) h
 
 pub settled-step : (w m : World) (c : Command) (answers : List Answer) (text : List ℕ) → AllByRecursion IsSettledPlace w.places → Step w c answers m text → AllByRecursion IsSettledPlace m.places
-settled-step w m c answers text k h = along_keeps (Lasts (IsFormed c) (HasNotDropped c answers)) IsSettledPlace IsSettledPlace (λ x y l i. l.while_open.settled i) w.places m.places (step_holds w m c answers text h).lasts k
+settled-step w m c answers text k h = along_keeps (Lasts (KeepsFit w c) (HasNotDropped c answers)) IsSettledPlace IsSettledPlace (λ x y l i. l.while_open.settled i) w.places m.places (step_holds w m c answers text h).lasts k
 
 pub settled-runs : (w m : World) (told : List Told) (text : List ℕ) → IsFresh w → Runs w told m text → AllByRecursion IsSettledPlace m.places
 settled-runs = holds_behind IsSettledPlace settled-step settled-closed
 
 pub bare-step : (w m : World) (c : Command) (answers : List Answer) (text : List ℕ) → AllByRecursion IsBarePlace w.places → Step w c answers m text → AllByRecursion IsBarePlace m.places
-bare-step w m c answers text k h = along_keeps (Lasts (IsFormed c) (HasNotDropped c answers)) IsBarePlace IsBarePlace (λ x y l i. l.while_open.bare i) w.places m.places (step_holds w m c answers text h).lasts k
+bare-step w m c answers text k h = along_keeps (Lasts (KeepsFit w c) (HasNotDropped c answers)) IsBarePlace IsBarePlace (λ x y l i. l.while_open.bare i) w.places m.places (step_holds w m c answers text h).lasts k
 
 pub bare-runs : (w m : World) (told : List Told) (text : List ℕ) → IsFresh w → Runs w told m text → AllByRecursion IsBarePlace m.places
 bare-runs = holds_behind IsBarePlace bare-step bare-closed

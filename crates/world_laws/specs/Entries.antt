@@ -5,11 +5,13 @@ use Rattle.global_defs.specs.Entry.{Entry, Sequence}
 use Rattle.global_defs.specs.Jobs.{Job, Answers}
 use Rattle.global_defs.specs.Serial.{Seq, Replied, Turn}
 use Rattle.global_defs.specs.Beside.{Along}
-use Rattle.command_defs.specs.Commands.{Name, Command, Resync}
+use Rattle.command_defs.specs.Commands.{Name, Command, Resync, Fetchresync}
 use Rattle.site_defs.specs.Lists.{Among}
 use Rattle.world_defs.specs.World.{Site, Place, World, IfKnown, EachOutcome, name_on, place_of}
-use Rattle.world_defs.specs.Answers.{Section, Answer, Done, DiskFault}
+use Rattle.world_defs.specs.Sections.{Section}
+use Rattle.world_defs.specs.Answers.{Answer, Done, DiskFault}
 use Rattle.world_defs.specs.Runs.{Told}
+use Rattle.world_defs.specs.rows.Feed.{follower_lines}
 use Rattle.world_defs.specs.rows.Run.{turn_on, section_text}
 
 -- the entry of that number, from 1
@@ -39,10 +41,10 @@ Every name n = Unit {0}
 abbrev pub NoEntryIsLost : (Name → ℕ → Type 0) → World → World → Type 0
 NoEntryIsLost kept w m = Along (λ i. KeepsEntriesOf kept) w.places m.places
 
--- Entry n of that site may be gone: the command was a ROLLBACK of it to that number or an earlier one, which was done, or which a fault ended.
+-- Entry n of that site may be gone: the command was a ROLLBACK of it to that number or an earlier one, or to what it shares with a primary, which was done, or which a fault ended.
 pub record MayHaveDropped (name : Name) (n : ℕ) (command : Command) (answers : List Answer) : Type 0 where
   pub number : ℕ
-  pub is : command ≡ Resync name number
+  pub is : (command ≡ Resync name number) ⊎ ((primary : Name) × (command ≡ Fetchresync name primary))
   pub behind : number ≤ n
   pub ends : (answers ≡ Done ∷ []) ⊎ ((k : ℕ) × (answers ≡ DiskFault k ∷ []))
 
@@ -81,9 +83,9 @@ HasRepliedBehind told name t q = (n : ℕ) → IsReplied n t → NoneDropped tol
 abbrev pub turn_there : Section → List (List Job) → Place → Turn
 turn_there s jobs p = turn_on p.site jobs s.picks p
 
--- and what it printed: the replies of that turn, and the site's line
-abbrev pub printed_by : Section → List (List Job) → List ℕ → Place → List ℕ
-printed_by s jobs order p = section_text (name_on p.site) (length order) (turn_there s jobs p) s.fault
+-- and what it printed: the replies of that turn, the followers' lines and the site's
+abbrev pub printed_by : World → Section → List (List Job) → List ℕ → Place → List ℕ
+printed_by w s jobs order p = section_text (name_on p.site) (length order) (turn_there s jobs p) (follower_lines w.places s.ends) s.fault s.bad
 
 -- the site with that name stood at place p, and what stands at that number is q
 pub record IsPlaceOf (name : Name) (w m : World) (p q : Place) : Type 0 where

@@ -1,3 +1,4 @@
+pub mod Fed
 pub mod Again
 pub mod Settled
 pub mod Entries

@@ -2,11 +2,13 @@
 use Rattle.std.specs.Prelude.{◌≡◌, Option, Some, None, IsSomeAnd}
 use Rattle.site_defs.specs.Contents.{Standing, NO_LEFTOVER, bare}
 use Rattle.site_defs.specs.Lists.{Among}
-use Rattle.world_defs.specs.World.{State, Down, Primary, Failed, Site, Place, IfKnown, Settled}
+use Rattle.world_defs.specs.World.{State, Down, Primary, Following, Waiting, Failed, Site, Place, IfKnown, Settled}
 
 abbrev pub IsOpenState : State → Type 0
 IsOpenState Down = ⊥
 IsOpenState (Primary stamp serials) = Unit {0}
+IsOpenState (Following primary) = Unit {0}
+IsOpenState (Waiting primary) = Unit {0}
 IsOpenState (Failed k) = ⊥
 
 -- a site stands there and is open

@@ -8,12 +8,13 @@ use Rattle.site_defs.specs.Contents.{Contents, Standing}
 use Rattle.site_defs.specs.Limits.{LAST_GENERATION}
 use Rattle.site_defs.specs.OutsideBlocks.{IsOutsideRollback}
 use Rattle.site_defs.specs.Rolling.{MayRollBack, MayRollBackLeft, rolled}
-use Rattle.world_defs.specs.World.{Down, Place, IfKnown, IfShown, Kept}
-use Rattle.world_defs.specs.Answers.{Cause, GenLimit, NoBefore, Refusal, line}
+use Rattle.world_defs.specs.World.{Down, Place, IfKnown, IfShown, KeptAs, Kept, set_back_on}
+use Rattle.world_defs.specs.Answers.{Cause, GenLimit, NoBefore, Refusal, Answer, Done, Refused, DiskFault, NotAFile, BadFrame, Ran, Typed, line}
 use Rattle.world_defs.specs.Shown.{ByRecords, BySequence, ByAnswer, Anything}
 use Rattle.world_defs.specs.Changes.{Becomes, KeptUnknown}
 use Rattle.world_defs.specs.Without.{IsFirstWithout, NoneIsWithout, IsWithoutNeed, needing, MayNeed}
 use Rattle.world_defs.specs.Row.{Row, writing, first, refused_with, in_state, why_not_down, where_known}
+use Rattle.world_defs.specs.Meaning.{Others, apart}
 use Rattle.world_defs.specs.rows.Start.{generation_limit}
 
 -- how many entries stay of so many, where the next one is to have that number; all, where there are fewer
@@ -75,3 +76,16 @@ rollback number name p = record (writing name (MayRollBackTo number p.left.broke
   -- the lost-transaction file is that of the first of the two generations that are drawn
   says = λ q. line name (codes "ROLLEDBACK " ++ decimal (length q.now.sequence) ++ codes " LOST " ++ decimal (generation q.now.instance - 1));
 }
+
+-- Once it was done, or a fault ended it, each site that follows the one with that name waits for it.
+abbrev pub SetsBack : Name → Answer → Place → Place → Type 0
+SetsBack name Done old new = KeptAs (set_back_on name old.site) old new
+SetsBack name (DiskFault k) old new = KeptAs (set_back_on name old.site) old new
+SetsBack name (Refused r) old new = Kept old new
+SetsBack name (NotAFile file offset) old new = Kept old new
+SetsBack name (BadFrame offset) old new = Kept old new
+SetsBack name (Ran s) old new = Kept old new
+SetsBack name (Typed text) old new = Kept old new
+
+abbrev pub setting_back : Name → Others
+setting_back name = record apart { places = λ a j. SetsBack name a }

@@ -9,15 +9,16 @@ use Rattle.global_defs.specs.Entry.{Sequence}
 use Rattle.journal_defs.specs.Instance.{generation, site_name}
 use Rattle.journal_defs.specs.Sequence.{Records}
 use Rattle.command_defs.specs.Commands.{Name}
-use Rattle.site_defs.specs.Contents.{Contents}
+use Rattle.site_defs.specs.Contents.{Contents, Standing}
+use Rattle.site_defs.specs.Forward.{recovered_as, MayRecoverAs, MayRecoverAsLeft}
 use Rattle.site_defs.specs.Limits.{LAST_GENERATION, no_generation_left, no_reign_left}
 use Rattle.site_defs.specs.OutsideBlocks.{IsOutsideOpening}
 use Rattle.site_defs.specs.Opening.{MayBegin, MayBeginLeft, next_stamp, opened, with_reign}
-use Rattle.world_defs.specs.World.{State, Down, Primary, Failed, Site, Place, IfKnown, IfShown, Kept}
+use Rattle.world_defs.specs.World.{State, Down, Primary, Following, Waiting, Failed, Site, Place, IfKnown, IfShown, Kept}
 use Rattle.world_defs.specs.Answers.{Cause, GenLimit, ReignLimit, NeedForward, line}
 use Rattle.world_defs.specs.Shown.{ByRecords, BySequence, IsOfAnother, ByAnswer, Anything}
 use Rattle.world_defs.specs.Changes.{Becomes, ChangesUnknown, KeptUnknown}
-use Rattle.world_defs.specs.Without.{IsFirstWithout, NoneIsWithout, needing, MayNeedForward}
+use Rattle.world_defs.specs.Without.{IsFirstWithout, NoneIsWithout, IsWithoutNeed, needing, MayNeedForward}
 use Rattle.world_defs.specs.Row.{Row, writing, first, refused_with, caused, in_state, why_not_down, where_known}
 
 abbrev pub generation_limit : Contents → Option Cause
@@ -57,14 +58,24 @@ abbrev pub is_reign_limit : Cause → Bool
 is_reign_limit ReignLimit = true
 is_reign_limit cause = false
 
--- past the limit of reigns the site was opened, which used a generation, and is down again; otherwise all is as it was
+-- past the limit of reigns the site was opened, which used a generation, and is closed again with an epoch of all entries; otherwise all is as it was
 abbrev pub StartRefused : (past_reigns : Bool) → Place → Place → Type 0
-StartRefused true old new = Becomes Down (opened old.left.broken old.now) old new
+StartRefused true old new = Becomes Down (recovered_as false old.left.broken old.now) old new × IsWithoutNeed new
 StartRefused false old new = Kept old new
+
+-- what starting may leave of these contents: what beginning a reign may, and past the limit of reigns what opening and closing may
+abbrev pub MayStart : Name → List ℕ → Contents → Contents → Type 0
+MayStart name broken c o = MayBegin name broken c o ⊎ ((no_reign_left c ≡ true) × MayRecoverAs false broken c o)
+
+-- and of these with what lies behind them
+abbrev pub MayStartLeft : Name → Standing → Standing → Type 0
+MayStartLeft name s o = MayBeginLeft name s o ⊎ ((no_reign_left s.contents ≡ true) × MayRecoverAsLeft false s o)
 
 abbrev pub cycle_in : State → ℕ
 cycle_in Down = 0
 cycle_in (Primary stamp serials) = stamp.cycle
+cycle_in (Following primary) = 0
+cycle_in (Waiting primary) = 0
 cycle_in (Failed k) = 0
 
 -- the cycle of the reign of that site
@@ -96,7 +107,7 @@ abbrev pub StartMayRefuse : Cause → Place → Place → Type 0
 StartMayRefuse cause old new = ((cause ≡ GenLimit) × KeptUnknown old new) ⊎ ((cause ≡ ReignLimit) × ChangesUnknown old new) ⊎ MayNeedForward cause old new
 
 abbrev pub start : Name → Place → Row
-start name p = record (writing name (MayBegin name p.left.broken) (MayBeginLeft name) p) {
+start name p = record (writing name (MayStart name p.left.broken) (MayStartLeft name) p) {
   early = refused_with name (in_state why_not_down p.site);
   late = refused_with name (limited p);
   refused = λ r q. StartRefused (is_reign_limit r.cause) p q;

@@ -2,10 +2,10 @@ use Rattle.std.proofs.Common.{◌≡◌, List, [], ◌∷◌, ◌++◌, ℕ, Som
 use Rattle.std.specs.Prelude.{◌⊎◌, codes, Option, None, IsSomeAnd}
 use Rattle.site_defs.specs.Contents.{Contents, Standing, bare}
 use Rattle.site_defs.specs.Lists.{Among}
-use Rattle.site_defs.specs.Opening.{MayBeginLeft}
 use Rattle.site_defs.specs.Samples.{made}
 use Rattle.world_defs.specs.World.{Place, UNTOLD, CoversSo, StandAfter}
 use Rattle.world_defs.specs.rows.Crash.{Crashes, standing_now}
+use Rattle.world_defs.specs.rows.Start.{MayStartLeft}
 use Rattle.world_defs.specs.Samples.{torn_place}
 use Rattle.world_defs.proofs.laws.leftovers_are_written.Goals as goal
 
@@ -59,10 +59,14 @@ left so P old new (Some os) h = λ o a.
 pub returns-clause-cut_off : goal.returns-clause-cut_off
 returns-clause-cut_off c q l = left (λ s o. ⊥) (λ o. o.broken ≡ codes "x") refl (λ o none. absurd none) q.standings (l.standings refl)
 
-written : (o : Standing) → MayBeginLeft (codes "A") torn o → (o.broken ≡ codes "x") ⊎ (o.contents.texts ≡ codes "x" ∷ [])
-written o (inl (inl e)) = inl (ap (λ (s : Standing). s.broken) e)
-written o (inl (inr k)) = inr (ap (λ (s : Standing). s.contents.texts) k.1)
-written o (inr e) = inr (ap (λ (s : Standing). s.contents.texts) e)
+written : (o : Standing) → MayStartLeft (codes "A") torn o → (o.broken ≡ codes "x") ⊎ (o.contents.texts ≡ codes "x" ∷ [])
+written o (inl (inl (inl e))) = inl (ap (λ (s : Standing). s.broken) e)
+written o (inl (inl (inr k))) = inr (ap (λ (s : Standing). s.contents.texts) k.1)
+written o (inl (inr e)) = inr (ap (λ (s : Standing). s.contents.texts) e)
+written o (inr (past, inl (inl e))) = inl (ap (λ (s : Standing). s.broken) e)
+written o (inr (past, inl (inr k))) = inr (ap (λ (s : Standing). s.contents.texts) k.1)
+written o (inr (past, inr (inl e))) = inr (ap (λ (s : Standing). s.contents.texts) e)
+written o (inr (past, inr (inr k))) = inr (ap (λ (s : Standing). s.contents.texts) k.1)
 
 pub returns-clause-cut_start : goal.returns-clause-cut_start
-returns-clause-cut_start c q l = left (MayBeginLeft (codes "A")) (λ o. (o.broken ≡ codes "x") ⊎ (o.contents.texts ≡ codes "x" ∷ [])) (inl refl) written q.standings (l.standings refl)
+returns-clause-cut_start c q l = left (MayStartLeft (codes "A")) (λ o. (o.broken ≡ codes "x") ⊎ (o.contents.texts ≡ codes "x" ∷ [])) (inl refl) written q.standings (l.standings refl)

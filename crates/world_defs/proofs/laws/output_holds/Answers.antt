@@ -2,7 +2,7 @@ use Rattle.std.proofs.Common.{◌≡◌, ℕ, List, true, Some, refl, sym, ◌�
 use Rattle.std.specs.Prelude.{codes}
 use Rattle.std.specs.Fmt.{digits}
 use Rattle.world_defs.specs.World.{Place}
-use Rattle.world_defs.specs.Answers.{Answer, Stopped, Refusal, Done, Refused, DiskFault, NotAFile, Ran, Typed, refusal_line}
+use Rattle.world_defs.specs.Answers.{Answer, Stopped, Refusal, Done, Refused, DiskFault, NotAFile, BadFrame, Ran, Typed, refusal_line}
 use Rattle.world_defs.specs.Row.{Here}
 use Rattle.world_defs.specs.rows.Stop.{stop}
 use Rattle.world_defs.specs.Samples.{failed_place}
@@ -40,6 +40,7 @@ returns-clause-refused c = (
     becomes = failed_place true;
     here = (inl (refl, record { site = refl; now = refl; left = refl; known = record { told = refl; outcomes = λ o h. h; standings = λ t o h. (o, h, refl) }; shown = refl; faults = omega arith; simulated = refl }), sym stopped_line, tt);
     around = (refl, tt);
+    linked = refl;
   },
 )
 
@@ -53,6 +54,7 @@ said (Refused r) q t (inl h, e, b) = e ∙ ap refusal_line (sym (same r h.0)) �
 said (Refused r) q t (inr h, e, b) = absurd h.1
 said (DiskFault k) q t h = absurd (cc h.0)
 said (NotAFile file offset) q t h = absurd h.1
+said (BadFrame offset) q t h = absurd (cc h.0)
 said (Ran s) q t h = absurd h.1
 said (Typed text) q t h = absurd h.1
 

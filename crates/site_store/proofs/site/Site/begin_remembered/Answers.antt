@@ -6,11 +6,12 @@ use Rattle.gvn_model.specs.Reigns.{reign_value}
 use Rattle.journal_defs.specs.Surviving.{reigns}
 use Rattle.journal_laws.proofs.Runs as runs
 use Rattle.site_defs.specs.Contents.{Contents}
+use Rattle.site_store.proofs.OfForm.{formed_more}
 use Rattle.site_store.specs.declared.error.SiteError.TheVariants as error
 use Rattle.site_store.specs.declared.memory.Memory.{Memory}
 use Rattle.site_store.specs.Following.{IsReignToCome, with_remembered}
 use Rattle.site_store.specs.Owning.{IsOpenSite}
-use Rattle.site_store.specs.Site.{IsOpen}
+use Rattle.site_store.specs.Site.{count_of, IsOpen}
 use Rattle.site_store.proofs.Begun.{history_begun}
 use Rattle.site_store.proofs.Adopted.{starts_adopted}
 use Rattle.site_store.proofs.Applied as applied
@@ -88,6 +89,7 @@ returns-in-Ok-clause-ready g c =
           (c.in_ok-add_reign.ensures.reigns ∙ ap (λ (q : Reign). c.args.self.now.history.reigns ++ q ∷ []) same) (ap (λ (m : Memory). m.entries) c.append_reign.ensures.others) c.in-Ok.ensures.records;
       starts = starts_adopted old c.append_reign.new.self x c.args.self.now.starts.items _ (to_come g (goal.at.returns-in-Ok-clause-ready g c).In-Some) c.requires.ready.starts
           (c.in_ok-add_reign.ensures.starts ∙ ap (λ (q : Reign). c.args.self.now.starts.items ++ q.start ∷ []) same) c.in-Ok.ensures.records;
+      formed = (let t = to_come g (goal.at.returns-in-Ok-clause-ready g c).In-Some in formed_more (count_of old) old.instance.records c.append_reign.new.self.instance.records x c.in-Ok.ensures.records t.none_past t.start c.requires.ready.formed t.form);
     }
 
 pub returns-in-Ok-clause-begun : goal.returns-in-Ok-clause-begun

@@ -15,6 +15,7 @@ use Rattle.region_store.specs.Joined.{Joined}
 use Rattle.entry_index.specs.Rows.{HasRowRoom}
 use Rattle.site_defs.specs.Contents.{Contents}
 use Rattle.site_defs.specs.Stands.{IsSite}
+use Rattle.site_store.specs.Site.{AreReigns}
 use Rattle.site_store.specs.declared.memory.Memory.{Memory}
 use Rattle.site_store.specs.declared.error.SiteError.TheVariants as error
 use Rattle.site_store.specs.Following.{with_remembered}
@@ -126,6 +127,7 @@ returns-clause-ready g c =
         surviving = going.history.surviving ∙ ap (λ (i : Instance). reigns i.records) (sym c.put_in.ensures.same.instance);
       };
       starts = subst (λ (i : Instance). AreStarts (reigns i.records) c.begin_remembered.new.self.starts.items) (sym c.put_in.ensures.same.instance) going.starts;
+      formed = subst (λ (i : Instance). AreReigns (reigns i.records)) (sym c.put_in.ensures.same.instance) going.formed;
     }
 
 pub returns-clause-done : goal.returns-clause-done

@@ -21,7 +21,7 @@ returns-in-Ok-clause-stands g c y h o = hardened.harden_stands (g.D.Disk.disk c.
 pub returns-in-Ok-clause-ready : goal.returns-in-Ok-clause-ready
 returns-in-Ok-clause-ready g c =
     let was = c.requires.ready c.in_default.is in
-    record { fault = c.in_default.is; history = record { count = was.history.count; surviving = was.history.surviving }; starts = was.starts; files = hardened.ready_hardened (g.D.Disk.disk c.args.self.now.disk) (g.D.Disk.disk c.harden.new.disk) c.args.self.now.inner _ (record { ready = (c.requires.ready c.in_default.is).files; journals = c.in-Ok.ensures.ready; state = c.in-Ok.ensures.state; count = c.harden.ensures.count; stays = c.harden.ensures.frame; instance = refl; layout = refl; entries = refl; globals = refl }) }
+    record { fault = c.in_default.is; history = record { count = was.history.count; surviving = was.history.surviving }; starts = was.starts; formed = was.formed; files = hardened.ready_hardened (g.D.Disk.disk c.args.self.now.disk) (g.D.Disk.disk c.harden.new.disk) c.args.self.now.inner _ (record { ready = (c.requires.ready c.in_default.is).files; journals = c.in-Ok.ensures.ready; state = c.in-Ok.ensures.state; count = c.harden.ensures.count; stays = c.harden.ensures.frame; instance = refl; layout = refl; entries = refl; globals = refl }) }
 
 pub returns-in-Ok-clause-done : goal.returns-in-Ok-clause-done
 returns-in-Ok-clause-done g c told y h o = record { fault = o.fault; inner = hardened.open_hardened (g.D.Disk.disk c.args.self.now.disk) (g.D.Disk.disk c.harden.new.disk) told y h c.args.self.now.inner _ (record { ready = (c.requires.ready c.in_default.is).files; journals = c.in-Ok.ensures.ready; state = c.in-Ok.ensures.state; count = c.harden.ensures.count; stays = c.harden.ensures.frame; instance = refl; layout = refl; entries = refl; globals = refl }) (search rules) (g.met.D.Disk.lawful c.harden.new.disk) o.inner }

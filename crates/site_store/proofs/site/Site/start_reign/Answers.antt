@@ -4,6 +4,8 @@ use Rattle.global_defs.specs.Entry.{Reign}
 use Rattle.gvn_model.specs.Reigns.{reign_value}
 use Rattle.journal_defs.specs.Surviving.{reigns}
 use Rattle.mupip_recover.specs.Minima.{minima}
+use Rattle.site_store.specs.Site.{count_of}
+use Rattle.site_store.proofs.OfForm.{formed_more, formed_same}
 use Rattle.site_store.specs.declared.error.SiteError.TheVariants as error
 use Rattle.site_store.specs.Owning.{IsGoing, IsOpenSite}
 use Rattle.site_store.proofs.Begun as reigning
@@ -40,6 +42,7 @@ returns-in-Ok-clause-ready g c =
           (c.in_ok-add_reign.ensures.reigns ∙ ap (λ (q : Reign). c.args.self.now.history.reigns ++ q ∷ []) same) c.begin_reign.ensures.entries c.in-Ok.ensures.records;
       starts = reigning.starts_begun old c.begin_reign.new.self r _ _ (c.requires.opened c.in_default.is).no_reign_past c.in_ok-reign.ensures.next going.starts
           (c.in_ok-add_reign.ensures.starts ∙ ap (λ (q : Reign). c.args.self.now.starts.items ++ q.start ∷ []) same) c.in-Ok.ensures.records;
+      formed = formed_more (count_of old) old.instance.records c.begin_reign.new.self.instance.records r c.in-Ok.ensures.records (c.requires.opened c.in_default.is).no_reign_past c.in_ok-reign.ensures.next.start going.formed c.in-Ok.ensures.form;
     }
 
 pub returns-in-Ok-clause-begun : goal.returns-in-Ok-clause-begun
@@ -61,6 +64,7 @@ returns-clause-goes_on g c is =
       history = reigning.history_same old c.begin_reign.new.self _ _ going.history (c.drop_reign.ensures.length ∙ c.add_reign.ensures.length)
           (c.drop_reign.ensures.reigns c.args.self.now.history.reigns _ c.in_ok-add_reign.ensures.reigns) c.begin_reign.ensures.entries records;
       starts = starts ∙ going.starts ∙ ap (λ (l : List Reign). minima (map (λ (q : Reign). q.start) l)) (sym (ap reigns records));
+      formed = formed_same old.instance.records c.begin_reign.new.self.instance.records records going.formed;
     })
 
 pub returns-clause-stays_open : goal.returns-clause-stays_open
