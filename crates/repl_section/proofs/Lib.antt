@@ -4,3 +4,6 @@ pub mod Turns
 pub mod Room
 pub mod Replied
 pub mod Settled
+pub mod Stepped
+pub mod Read
+pub mod Closed

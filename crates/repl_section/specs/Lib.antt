@@ -2,3 +2,9 @@ pub mod Reigns
 pub mod Replies
 pub mod Lines
 pub mod Deciding
+pub mod Stories
+pub mod Followers
+pub mod Ends
+pub mod Becoming
+pub mod Shipping
+pub mod Reading

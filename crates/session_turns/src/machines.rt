@@ -99,10 +99,12 @@ fn ship<T: LinkTx, E: EntrySource>(
     entries: &mut E,
     tx: &mut T,
 ) -> Result<(), ShipError<E::Error>>
+    requires callable { E.callable entries.old }
     ensures line { T.line tx.new ≡ T.line tx.old }
     ensures same { SameSending (T.sending tx.old) (T.sending tx.new) }
     ensures kept { (n : ℕ) (entry : List ℕ) → E.is_entry entries.old n entry → E.is_entry entries.new n entry }
     ensures still { (n : ℕ) → E.ready entries.old n → E.ready entries.new n }
+    ensures callable { E.callable entries.new }
     ensures later { E.later entries.old entries.new }
     ensures sends { IsTrue (T.sending tx.old).told → (from : ℕ) → HasGiven (E.is_entry entries.old) from length source.old (T.sending tx.old).sent
         → HasGiven (E.is_entry entries.new) from length source.new (T.sending tx.new).sent }
@@ -137,16 +139,16 @@ fn apply<S: EntrySink>(
     site: &mut S,
 ) -> Result<(), UpdateError<S::Error>>
     requires pool { IsPool into.old out.old }
-    requires going { IsTrue (S.going site.old) }
+    requires going { S.going site.old }
     ensures pool { IsPool into.new out.new }
     ensures put { put_in into.new ≡ put_in into.old }
     // an entry that was put at most is taken, so that nothing is left
     ensures empty { 0 < ring.producer_capacity into.old.ring → length (put_in into.old) ≤ length (taken out.old) + 1 → OnOk result (IsEmptyPool into.new out.new) }
     // where none was put it doesn't fail
     ensures nothing { taken out.old ≡ put_in into.old → OnErr result ⊥ }
-    ensures going { OnOk result (IsTrue (S.going site.new)) }
+    ensures going { OnOk result (S.going site.new) }
     ensures site_later { S.later site.old site.new }
-    ensures on { IfErr result (λ e. IsSites e ⊎ IsTrue (S.going site.new)) }
+    ensures on { IfErr result (λ e. IsSites e ⊎ S.going site.new) }
     ensures applied { OnOk result ((begun : Copy) → Awaits begun (put_in into.old) (taken out.old) (S.copy site.old)
         → (taken out.new ≡ put_in into.new) × Followed begun (put_in into.new) (S.copy site.new)) }
     ensures halted { IfErr result (λ e. (begun : Copy) → Awaits begun (put_in into.old) (taken out.old) (S.copy site.old)
@@ -206,13 +208,13 @@ fn follow<R: LinkRx, S: EntrySink>(
     rx: &mut R,
 ) -> Result<Turned, TurnError<S::Error>>
     requires pool { IsPool into.old out.old }
-    requires going { IsTrue (S.going site.old) }
+    requires going { S.going site.old }
     ensures line { R.line rx.new ≡ R.line rx.old }
     ensures same { SameReceiving (R.receiving rx.old) (R.receiving rx.new) }
     ensures purpose { receiver.new.purpose ≡ receiver.old.purpose }
     ensures pool { IsPool into.new out.new }
     ensures empty { IsEmptyPool into.old out.old → IfOk result (λ t. t ≡ Turned.On → IsEmptyPool into.new out.new) }
-    ensures going { OnOk result (IsTrue (S.going site.new)) }
+    ensures going { OnOk result (S.going site.new) }
     ensures site_later { S.later site.old site.new }
     ensures hears { IsEmptyPool into.old out.old → IfOk result (λ t. t ≡ Turned.On
         → HasMoved receiver.old receiver.new (R.receiving rx.old) (R.receiving rx.new) ⊎ IsStill receiver.old receiver.new (R.receiving rx.old) (R.receiving rx.new)) }
@@ -278,11 +280,13 @@ impl<P: Drop> Machines<P> {
         entries: &mut E,
         tx: &mut T,
     ) -> Result<(), NoMemory>
+        requires callable { E.callable entries.old }
         ensures line { T.line tx.new ≡ T.line tx.old }
         ensures same { SameSending (T.sending tx.old) (T.sending tx.new) }
         ensures others { (self.new.receiver ≡ self.old.receiver) × (self.new.into ≡ self.old.into) × (self.new.out ≡ self.old.out) }
         ensures kept { (n : ℕ) (entry : List ℕ) → E.is_entry entries.old n entry → E.is_entry entries.new n entry }
         ensures still { (n : ℕ) → E.ready entries.old n → E.ready entries.new n }
+        ensures callable { E.callable entries.new }
         ensures later { E.later entries.old entries.new }
         ensures sends { IsTrue (T.sending tx.old).told → (from : ℕ) → HasGiven (E.is_entry entries.old) from length self.old.source (T.sending tx.old).sent
             → HasGiven (E.is_entry entries.new) from length self.new.source (T.sending tx.new).sent }
@@ -324,15 +328,17 @@ impl<P: Drop> Machines<P> {
         rx: &mut R,
     ) -> Result<Turned, TurnError<S::Error>>
         requires pool { IsPool self.old.into self.old.out }
-        requires going { IsTrue (S.going site.old) }
+        requires going { S.going site.old }
+        requires callable { E.callable entries.old }
         ensures lines { (T.line tx.new ≡ T.line tx.old) × (R.line rx.new ≡ R.line rx.old) }
         ensures same_tx { SameSending (T.sending tx.old) (T.sending tx.new) }
         ensures same_rx { SameReceiving (R.receiving rx.old) (R.receiving rx.new) }
         ensures pool { IsPool self.new.into self.new.out }
-        ensures going { OnOk result (IsTrue (S.going site.new)) }
+        ensures going { OnOk result (S.going site.new) }
         ensures site_later { S.later site.old site.new }
         ensures kept { (n : ℕ) (entry : List ℕ) → E.is_entry entries.old n entry → E.is_entry entries.new n entry }
         ensures still { (n : ℕ) → E.ready entries.old n → E.ready entries.new n }
+        ensures callable { E.callable entries.new }
         ensures later { E.later entries.old entries.new }
         ensures sends { IsTrue (T.sending tx.old).told → (from : ℕ) → HasGiven (E.is_entry entries.old) from length self.old.source (T.sending tx.old).sent
             → HasGiven (E.is_entry entries.new) from length self.new.source (T.sending tx.new).sent }
@@ -377,17 +383,19 @@ impl<P: Drop> Machines<P> {
         ends: &mut Ends<L::Tx, L::Rx>,
     ) -> Result<Turned, TurnError<S::Error>>
         requires pool { IsPool self.old.into self.old.out }
-        requires going { IsTrue (S.going site.old) }
+        requires going { S.going site.old }
         requires lines { (L.Tx.line ends.old.up_tx ≡ L.Rx.line ends.old.down_rx) × (L.Tx.line ends.old.down_tx ≡ L.Rx.line ends.old.up_rx) }
         requires one { (L.Tx.sending ends.old.up_tx).connection ≡ (L.Tx.sending ends.old.down_tx).connection }
+        requires callable { E.callable entries.old }
         ensures lines { (L.Tx.line ends.new.up_tx ≡ L.Rx.line ends.new.down_rx) × (L.Tx.line ends.new.down_tx ≡ L.Rx.line ends.new.up_rx) }
         ensures up { SameSending (L.Tx.sending ends.old.up_tx) (L.Tx.sending ends.new.up_tx) × SameReceiving (L.Rx.receiving ends.old.down_rx) (L.Rx.receiving ends.new.down_rx) }
         ensures down { SendingLooked (L.Tx.sending ends.old.down_tx) (L.Tx.sending ends.new.down_tx) × ReceivingLooked (L.Rx.receiving ends.old.up_rx) (L.Rx.receiving ends.new.up_rx) }
         ensures pool { IsPool self.new.into self.new.out }
-        ensures going { OnOk result (IsTrue (S.going site.new)) }
+        ensures going { OnOk result (S.going site.new) }
         ensures site_later { S.later site.old site.new }
         ensures kept { (n : ℕ) (entry : List ℕ) → E.is_entry entries.old n entry → E.is_entry entries.new n entry }
         ensures still { (n : ℕ) → E.ready entries.old n → E.ready entries.new n }
+        ensures callable { E.callable entries.new }
         ensures later { E.later entries.old entries.new }
         // what was sent and made are frames of the primary's entries, from behind the RESUME on
         ensures sends { IsTrue (L.Tx.sending ends.old.up_tx).told → (from : ℕ) → HasGiven (E.is_entry entries.old) from length self.old.source (L.Tx.sending ends.old.up_tx).sent

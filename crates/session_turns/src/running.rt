@@ -27,20 +27,22 @@ impl<P: Drop> Machines<P> {
         requires pool { IsPool self.old.into self.old.out }
         requires empty { IsEmptyPool self.old.into self.old.out }
         requires read { self.old.receiver.incoming.fresh ≡ [] }
-        requires going { IsTrue (S.going site.old) }
+        requires going { S.going site.old }
         requires lines { (L.Tx.line ends.old.up_tx ≡ L.Rx.line ends.old.down_rx) × (L.Tx.line ends.old.down_tx ≡ L.Rx.line ends.old.up_rx) }
         requires one { (L.Tx.sending ends.old.up_tx).connection ≡ (L.Tx.sending ends.old.down_tx).connection }
         requires told { (L.Rx.receiving ends.old.down_rx).told ≡ (L.links links.now).told }
         requires moves { IsTrue (L.links links.now).told → CanMove (E.ready entries.old) length self.old.source (IsSome self.old.failure) (L.Tx.sending ends.old.up_tx) (L.Rx.receiving ends.old.down_rx) }
+        requires callable { E.callable entries.old }
         ensures ends { IfOk result (λ t. t ≡ Turned.On → ⊥) }
         ensures lines { (L.Tx.line ends.new.up_tx ≡ L.Rx.line ends.new.down_rx) × (L.Tx.line ends.new.down_tx ≡ L.Rx.line ends.new.up_rx) }
         ensures up { SameSending (L.Tx.sending ends.old.up_tx) (L.Tx.sending ends.new.up_tx) × SameReceiving (L.Rx.receiving ends.old.down_rx) (L.Rx.receiving ends.new.down_rx) }
         ensures down { SendingLooked (L.Tx.sending ends.old.down_tx) (L.Tx.sending ends.new.down_tx) × ReceivingLooked (L.Rx.receiving ends.old.up_rx) (L.Rx.receiving ends.new.up_rx) }
         ensures pool { IsPool self.new.into self.new.out }
-        ensures going { OnOk result (IsTrue (S.going site.new)) }
+        ensures going { OnOk result (S.going site.new) }
         ensures site_later { S.later site.old site.new }
         ensures kept { (n : ℕ) (entry : List ℕ) → E.is_entry entries.old n entry → E.is_entry entries.new n entry }
         ensures still { (n : ℕ) → E.ready entries.old n → E.ready entries.new n }
+        ensures callable { E.callable entries.new }
         ensures later { E.later entries.old entries.new }
         // what was sent and made are frames of the primary's entries, from behind the RESUME on
         ensures sends { IsTrue (L.Tx.sending ends.old.up_tx).told → (from : ℕ) → HasGiven (E.is_entry entries.old) from length self.old.source (L.Tx.sending ends.old.up_tx).sent

@@ -44,14 +44,16 @@ where
     requires form { AllByRecursion IsReign (history_value theirs.now).reigns }
     requires rising { StartsRise 0 (history_value theirs.now).reigns }
     requires name { IsSiteName name.now }
-    requires going { IsTrue (S.going site.old) }
+    requires going { S.going site.old }
     requires fit { IsTrue (L.links links.old).shown → IsFitCopy (S.copy site.old) }
     requires ready { IsTrue (L.links links.old).told → (n : ℕ) → next_of (S.copy site.old) ≤ n → n ≤ theirs.now.length → E.ready entries.old n }
+    requires callable { E.callable entries.old }
     ensures met { (over : List Past) × WereMade (L.links links.old) (L.links links.new) session over × MetOne (L.links links.old).shown result (S.copy site.old) (S.copy site.new) over }
-    ensures going { OnOk result (IsTrue (S.going site.new)) }
+    ensures going { OnOk result (S.going site.new) }
     ensures site_later { S.later site.old site.new }
     ensures kept { (n : ℕ) (entry : List ℕ) → E.is_entry entries.old n entry → E.is_entry entries.new n entry }
     ensures still { (n : ℕ) → E.ready entries.old n → E.ready entries.new n }
+    ensures callable { E.callable entries.new }
     ensures later { E.later entries.old entries.new }
     ensures at { IfOk result (λ o. (n : ℕ) → o ≡ Some (SessionEnd.At n) → n ≡ length (S.copy site.new).sequence) }
     ensures fit { IsTrue (L.links links.old).shown → IsFitCopy (S.copy site.new) }

@@ -49,9 +49,10 @@ where
     requires rising { StartsRise 0 (history_value theirs.now).reigns }
     requires name { IsSiteName name.now }
     requires before { before ≤ 4 }
-    requires going { IsTrue (S.going site.old) }
+    requires going { S.going site.old }
     requires fit { IsTrue (L.links links.old).shown → IsFitCopy (S.copy site.old) }
     requires ready { IsTrue (L.links links.old).told → (n : ℕ) → next_of (S.copy site.old) ≤ n → n ≤ theirs.now.length → E.ready entries.old n }
+    requires callable { E.callable entries.old }
     // the session's connections alone were made, and given back
     ensures made { WereMade (L.links links.old) (L.links links.new) session (past_since (L.links links.old) (L.links links.new) session) }
     ensures few_cuts { before + count_by was_cut (past_since (L.links links.old) (L.links links.new) session) ≤ 4 }
@@ -84,10 +85,11 @@ where
     ensures rolls_back { IsTrue (L.links links.old).told → (all : Sequence) → Gives (E.is_entry entries.new) (history_value theirs.now) all
         → IfOk result (λ e. (n : ℕ) → e ≡ SessionEnd.RollbackFirst n → (S.copy site.new ≡ S.copy site.old) × IsParted n (history_value theirs.now) (history_of (S.copy site.old))) }
     // the site goes on, and what the primary has shown of entries it shows later too
-    ensures going { OnOk result (IsTrue (S.going site.new)) }
+    ensures going { OnOk result (S.going site.new) }
     ensures site_later { S.later site.old site.new }
     ensures kept { (n : ℕ) (entry : List ℕ) → E.is_entry entries.old n entry → E.is_entry entries.new n entry }
     ensures still { (n : ℕ) → E.ready entries.old n → E.ready entries.new n }
+    ensures callable { E.callable entries.new }
     ensures later { E.later entries.old entries.new }
 {
     let mut cuts = before;

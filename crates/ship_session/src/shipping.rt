@@ -85,7 +85,7 @@ where
     requires few { theirs.now.length < NUMBERS_END }
     requires form { AllByRecursion IsReign (history_value theirs.now).reigns }
     requires rising { StartsRise 0 (history_value theirs.now).reigns }
-    requires going { IsTrue (S.going site.old) }
+    requires going { S.going site.old }
     requires ready { IsTrue (L.links links.now).told → CanGive (E.ready entries.old) theirs.now.length (resumed_at (history_value theirs.now).reigns (next_of (S.copy site.old))) }
     requires lines { HaveLines L.Tx.line L.Rx.line ends.old }
     requires open { (from : Linking) × (session : ℕ) × IsOpen from (L.links links.now) session (views L.Tx.sending L.Rx.receiving ends.old) }
@@ -94,13 +94,15 @@ where
     requires fit { IsTrue (L.links links.now).shown → IsFitCopy (S.copy site.old) }
     requires hears { IsTrue (L.links links.now).shown → (frames : List Frame) × IsHearing (unbegun (history_of (S.copy site.old))) receiver (L.Rx.receiving ends.old.down_rx).received [] frames }
     requires sent { IsTrue (L.links links.now).told → (L.Tx.sending ends.old.up_tx).sent ≡ spelled_frame (Resume (next_of (S.copy site.old))) }
+    requires callable { E.callable entries.old }
     ensures lines { HaveLines L.Tx.line L.Rx.line ends.new }
     ensures same { SameEnds (views L.Tx.sending L.Rx.receiving ends.old) (views L.Tx.sending L.Rx.receiving ends.new) }
     ensures up_rx { ReceivingLooked (L.Rx.receiving ends.old.up_rx) (L.Rx.receiving ends.new.up_rx) }
-    ensures going { OnOk result (IsTrue (S.going site.new)) }
+    ensures going { OnOk result (S.going site.new) }
     ensures site_later { S.later site.old site.new }
     ensures kept { (n : ℕ) (entry : List ℕ) → E.is_entry entries.old n entry → E.is_entry entries.new n entry }
     ensures still { (n : ℕ) → E.ready entries.old n → E.ready entries.new n }
+    ensures callable { E.callable entries.new }
     ensures later { E.later entries.old entries.new }
     ensures cut { IfOk result (λ o. o ≡ None → cuts_of (views L.Tx.sending L.Rx.receiving ends.new) ≡ 1) }
     ensures uncut { IfOk result (λ o. (o ≡ None → ⊥) → cuts_of (views L.Tx.sending L.Rx.receiving ends.new) ≡ 0) }

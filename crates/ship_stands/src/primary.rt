@@ -95,6 +95,8 @@ impl EntrySource for Primary {
 
     ghost ready = { λ p n. n ≤ p.count };
 
+    ghost callable = { λ _. Unit {0} };
+
     ghost later = { λ a b. b.updates ≡ a.updates };
 
     ghost later_same = { λ a. refl };

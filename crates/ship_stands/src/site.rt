@@ -166,7 +166,7 @@ impl Site {
 impl EntrySink for Site {
     type Error = Stopped;
 
-    ghost use Rattle.std.specs.Prelude.{◌≡◌, true, ◌+◌, ◌++◌, length, option_map, option_to_list, refl};
+    ghost use Rattle.std.specs.Prelude.{◌≡◌, ◌+◌, ◌++◌, length, option_map, option_to_list, refl};
     ghost use Rattle.std.proofs.Common.{◌∙◌};
     ghost use Rattle.global_defs.specs.Prefix.{stamp_at};
     ghost use Rattle.gvn_model.specs.Reigns.{reign_value};
@@ -176,7 +176,7 @@ impl EntrySink for Site {
 
     ghost copy = { λ s. copy_of s };
 
-    ghost going = { λ _. true };
+    ghost going = { λ _. Unit {0} };
 
     ghost later = { λ a b. b.stop ≡ a.stop };
 
@@ -184,9 +184,9 @@ impl EntrySink for Site {
 
     ghost later_still = { λ a b c first more. more ∙ first };
 
-    ghost formed = { λ s. front_formed s.history.reigns (option_to_list (option_map reign_value s.remembered)) s.formed };
+    ghost formed = { λ s on. front_formed s.history.reigns (option_to_list (option_map reign_value s.remembered)) s.formed };
 
-    ghost covered = { λ s least. stamp_of (stamp_at (length s.story.sequence + 1) (s.history.reigns ++ option_to_list (option_map reign_value s.remembered)))
+    ghost covered = { λ s on least. stamp_of (stamp_at (length s.story.sequence + 1) (s.history.reigns ++ option_to_list (option_map reign_value s.remembered)))
         (stamp_stays (length s.story.sequence + 1) s.history.reigns (option_to_list (option_map reign_value s.remembered)) (s.begun least)) };
 
     fn history(&self) -> &History {

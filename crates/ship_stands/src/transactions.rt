@@ -42,7 +42,7 @@ fn transaction(alloc: Global, value: u16) -> Result<Transaction, StandError>
 fn apply<S: EntrySink>(site: &mut S, transaction: Transaction, applies: bool) -> bool
 where
     S::Error: Drop,
-    requires going { IsTrue (S.going site.old) }
+    requires going { S.going site.old }
     requires form { IsTransaction (transaction_value transaction) }
 {
     let length = site.history().length;

@@ -8,7 +8,7 @@ ghost use Rattle.instance_file.specs.Order.{AreInOrder};
 ghost use Rattle.journal_defs.specs.Directory.{Pattern, patterns};
 ghost use Rattle.journal_defs.specs.Numbers.{INSTANCE, journal_file};
 ghost use Rattle.journal_defs.specs.Instance as defs;
-ghost use Rattle.journal_defs.specs.Instance.{generation};
+ghost use Rattle.journal_defs.specs.Instance.{IsInForm, generation};
 ghost use Rattle.global_defs.specs.Entry.{Sequence};
 ghost use Rattle.journal_defs.specs.Sequence.{Placed, Records, IsSequence};
 ghost use Rattle.journal_defs.specs.Surviving.{reigns};
@@ -416,6 +416,7 @@ pub fn read_records<D: Disk>(
     ensures held { IfOk result (λ found. IfSome (D.disk disk.old).content (λ files. (u : Records) × (seq : Sequence) × AreFound files found.read.log.records found.read.lowest (map (λ s. s.items) found.read.signs.items) found.entries u seq)) }
     ensures signs { IfOk result (λ found. length found.read.signs.items ≡ length (defs.regions found.read.log.records)) }
     ensures rows { IfOk result (λ found. (found.entries.regions ≡ length (defs.regions found.read.log.records)) × (n : ℕ) × (length found.entries.places.items ≡ found.entries.regions * n)) }
+    ensures form { IfOk result (λ found. AllByRecursion IsInForm found.read.log.records) }
     ensures order { IfOk result (λ found. AreInOrder found.read.log.records) }
     ensures place { (file offset : ℕ) → IsErrOf result (FilesError.NotAFile file offset) → IfSome (D.disk disk.old).content (λ files. IsOutsideRecords files file offset) }
     ensures outside { (file offset : ℕ) → IsErrOf result (FilesError.NotAFile file offset) → IfSome (D.disk disk.old).content HoldNoSite }

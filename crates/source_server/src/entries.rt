@@ -15,6 +15,9 @@ pub trait EntrySource {
     /// The entry of that number is hardened, and this source will give it.
     ghost ready: { Self → ℕ → Type 0 };
 
+    /// It may be read from.
+    ghost callable: { Self → Type 0 };
+
     /// What this source may have become by calls that read.
     ghost later: { Self → Self → Type 0 };
 
@@ -24,7 +27,9 @@ pub trait EntrySource {
 
     /// Puts the bytes of an entry into `out`, in place of what it held, where the entry is hardened yet. Answers whether it is.
     fn read(&mut self, number: u64, out: &mut Bytes) -> Result<bool, Self::Error>
-        requires { IsNumber number }
+        requires number { IsNumber number }
+        requires callable { callable self.old }
+        ensures callable { callable self.new }
         ensures there { IfOk result (λ b. IsTrue b → is_entry self.new number out.new) }
         ensures size { IfOk result (λ b. IsTrue b → length out.new < 2 ^ 32) }
         ensures ready { ready self.old number → IfOk result (λ b. IsTrue b) }

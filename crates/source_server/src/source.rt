@@ -156,8 +156,10 @@ impl Source {
         requires nothing { self.old.pending ≡ [] }
         requires few { self.old.next < NUMBERS_END }
         requires going { self.old.ended ≡ false }
+        requires callable { E.callable entries.old }
         ensures kept { (n : ℕ) (entry : List ℕ) → E.is_entry entries.old n entry → E.is_entry entries.new n entry }
         ensures still { (n : ℕ) → E.ready entries.old n → E.ready entries.new n }
+        ensures callable { E.callable entries.new }
         ensures later { E.later entries.old entries.new }
         ensures taken { IfOk result (λ b. IsTrue b → (entry : List ℕ) × E.is_entry entries.new self.old.next entry
             × (self.new ≡ record self.old { next = self.old.next + 1; first = false; pending = made_of self.old entry })) }
@@ -183,8 +185,10 @@ impl Source {
     fn take<E: EntrySource>(&mut self, entries: &mut E) -> Result<bool, ShipError<E::Error>>
         requires nothing { self.old.pending ≡ [] }
         requires going { self.old.ended ≡ false }
+        requires callable { E.callable entries.old }
         ensures kept { (n : ℕ) (entry : List ℕ) → E.is_entry entries.old n entry → E.is_entry entries.new n entry }
         ensures still { (n : ℕ) → E.ready entries.old n → E.ready entries.new n }
+        ensures callable { E.callable entries.new }
         ensures later { E.later entries.old entries.new }
         ensures taken { IfOk result (λ b. IsTrue b → (entry : List ℕ) × E.is_entry entries.new self.old.next entry
             × (self.new ≡ record self.old { next = self.old.next + 1; first = false; pending = made_of self.old entry })) }
@@ -239,11 +243,13 @@ impl Source {
         entries: &mut E,
         tx: &mut T,
     ) -> Result<Shipped, ShipError<E::Error>>
+        requires callable { E.callable entries.old }
         ensures line { T.line tx.new ≡ T.line tx.old }
         ensures same { SameSending (T.sending tx.old) (T.sending tx.new) }
         ensures finished { (T.sending tx.new).finished ≡ (T.sending tx.old).finished }
         ensures kept { (n : ℕ) (entry : List ℕ) → E.is_entry entries.old n entry → E.is_entry entries.new n entry }
         ensures still { (n : ℕ) → E.ready entries.old n → E.ready entries.new n }
+        ensures callable { E.callable entries.new }
         ensures later { E.later entries.old entries.new }
         // whatever it answers, no entry was taken, or the one of the next number, with its HISTORY where it has one
         ensures ships { IsTrue (T.sending tx.old).told → Goes (E.is_entry entries.new) self.old self.new (T.sending tx.old).sent (T.sending tx.new).sent }

@@ -42,11 +42,11 @@ pub enum UpdateError<E> {
 
 // Adopts the reign of a HISTORY that came right before an entry.
 fn adopt<S: EntrySink>(site: &mut S, reign: &Option<Reign>) -> Result<bool, UpdateError<S::Error>>
-    requires going { IsTrue (S.going site.old) }
+    requires going { S.going site.old }
     requires form { (r : defs.Reign) → reign_of reign.now ≡ Some r → IsReign r }
     ensures adopted { IfOk result (λ b. IsTrue b → S.copy site.new ≡ told (S.copy site.old) (reign_of reign.now)) }
     ensures strange { IfOk result (λ b. b ≡ false → IsStrange (S.copy site.old) (reign_of reign.now) × (S.copy site.new ≡ S.copy site.old)) }
-    ensures going { OnOk result (IsTrue (S.going site.new)) }
+    ensures going { OnOk result (S.going site.new) }
     ensures later { S.later site.old site.new }
     ensures err { IfErr result (λ e. IsSites e × (S.copy site.new ≡ S.copy site.old)) }
 {
@@ -66,14 +66,14 @@ fn adopt<S: EntrySink>(site: &mut S, reign: &Option<Reign>) -> Result<bool, Upda
 
 // Applies the next entry and hardens it.
 fn enter<S: EntrySink>(site: &mut S, arrived: Arrived) -> Result<Applied, UpdateError<S::Error>>
-    requires going { IsTrue (S.going site.old) }
+    requires going { S.going site.old }
     requires form { IsArrival (arrival_value arrived) }
     requires next { arrived.number ≡ next_of (S.copy site.old) }
     requires under { (stamp : defs.Stamp) × (stamp_at (next_of (S.copy site.old)) (reigns_next (S.copy site.old)) ≡ Some stamp) }
     ensures one { IfOk result (λ a. (a ≡ Applied.One arrived.number) × ((m : Copy) × Takes (transaction_value arrived.transaction) (S.copy site.old) m × (S.copy site.new ≡ hardened m))) }
-    ensures going { OnOk result (IsTrue (S.going site.new)) }
+    ensures going { OnOk result (S.going site.new) }
     ensures later { S.later site.old site.new }
-    ensures on { IfErr result (λ e. IsSites e ⊎ IsTrue (S.going site.new)) }
+    ensures on { IfErr result (λ e. IsSites e ⊎ S.going site.new) }
     ensures err { IfErr result (λ e. Refuses e (arrival_value arrived) (S.copy site.old) (S.copy site.new)) }
 {
     let Arrived {
@@ -95,12 +95,12 @@ fn enter<S: EntrySink>(site: &mut S, arrived: Arrived) -> Result<Applied, Update
 // Follows an entry that came.
 #[tactic(auto, using(crate::proofs::Covered::told_globals))]
 fn follow<S: EntrySink>(site: &mut S, arrived: Arrived) -> Result<Applied, UpdateError<S::Error>>
-    requires going { IsTrue (S.going site.old) }
+    requires going { S.going site.old }
     requires form { IsArrival (arrival_value arrived) }
     ensures after { IfOk result (λ a. Did a (arrival_value arrived) (S.copy site.old) (S.copy site.new)) }
-    ensures going { OnOk result (IsTrue (S.going site.new)) }
+    ensures going { OnOk result (S.going site.new) }
     ensures later { S.later site.old site.new }
-    ensures on { IfErr result (λ e. IsSites e ⊎ IsTrue (S.going site.new)) }
+    ensures on { IfErr result (λ e. IsSites e ⊎ S.going site.new) }
     ensures failed { IfErr result (λ e. FailedAt e (arrival_value arrived) (S.copy site.old) (S.copy site.new)) }
 {
     let length = site.history().length;
@@ -124,13 +124,13 @@ pub fn apply_next<S: EntrySink>(
     site: &mut S,
     pool: &mut PoolOut,
 ) -> Result<Applied, UpdateError<S::Error>>
-    requires { IsTrue (S.going site.old) }
+    requires { S.going site.old }
     ensures same { SameOut pool.old pool.new }
     ensures after { IfOk result (λ a. After a (known pool.old) (taken pool.old) (taken pool.new) (S.copy site.old) (S.copy site.new)) }
-    ensures going { OnOk result (IsTrue (S.going site.new)) }
+    ensures going { OnOk result (S.going site.new) }
     ensures later { S.later site.old site.new }
     // a bad frame leaves a site that goes on
-    ensures on { IfErr result (λ e. IsSites e ⊎ IsTrue (S.going site.new)) }
+    ensures on { IfErr result (λ e. IsSites e ⊎ S.going site.new) }
     ensures failed { IfErr result (λ e. Failed e (known pool.old) (taken pool.old) (taken pool.new) (S.copy site.old) (S.copy site.new)) }
 {
     match pool.take() {

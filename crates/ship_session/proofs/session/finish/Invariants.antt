@@ -24,8 +24,9 @@ invariant-loop-cuts g l =
       counted : l.before + count_by was_cut over ≡ l.cuts;
       each : length over ≡ count_by was_cut over;
       few : l.cuts ≤ 4;
-      going : IsTrue (g.S.EntrySink.going l.site);
+      going : g.S.EntrySink.going l.site;
       kept : (n : ℕ) (entry : List ℕ) → g.E.EntrySource.is_entry l.fn.entries n entry → g.E.EntrySource.is_entry l.entries n entry;
+      callable : g.E.EntrySource.callable l.entries;
       still : (n : ℕ) → g.E.EntrySource.ready l.fn.entries n → g.E.EntrySource.ready l.entries n;
       later : g.E.EntrySource.later l.fn.entries l.entries;
       site_later : g.S.EntrySink.later l.fn.site l.site;

@@ -7,4 +7,4 @@ apply-requires-clause-next g c = let is = ap (λ h. h.length) c.history.ensures.
 pub apply-requires-clause-under : goal.apply-requires-clause-under
 apply-requires-clause-under g c =
     let is = ap (λ h. h.length) c.history.ensures.is in
-    g.met.S.EntrySink.covered c.args.site.now (omega (arith, is, c.if-length-eq0.false))
+    g.met.S.EntrySink.covered c.args.site.now c.requires.going (omega (arith, is, c.if-length-eq0.false))

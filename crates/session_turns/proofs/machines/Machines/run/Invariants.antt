@@ -19,7 +19,7 @@ invariant-loop-ended g l =
       pool : IsPool l.self.into l.self.out;
       empty : IsEmptyPool l.self.into l.self.out;
       read : l.self.receiver.incoming.fresh ≡ [];
-      going : IsTrue (g.S.EntrySink.going l.site);
+      going : g.S.EntrySink.going l.site;
       lines : (g.L.Tx.LinkTx.line l.ends.up_tx ≡ g.L.Rx.LinkRx.line l.ends.down_rx) × (g.L.Tx.LinkTx.line l.ends.down_tx ≡ g.L.Rx.LinkRx.line l.ends.up_rx);
       one : (tx l.ends.up_tx).connection ≡ (tx l.ends.down_tx).connection;
       told : (rx l.ends.down_rx).told ≡ links.told;
@@ -27,6 +27,7 @@ invariant-loop-ended g l =
       up : SameSending (tx was.ends.up_tx) (tx l.ends.up_tx) × SameReceiving (rx was.ends.down_rx) (rx l.ends.down_rx);
       down : SendingLooked (tx was.ends.down_tx) (tx l.ends.down_tx) × ReceivingLooked (rx was.ends.up_rx) (rx l.ends.up_rx);
       kept : (n : ℕ) (entry : List ℕ) → g.E.EntrySource.is_entry was.entries n entry → g.E.EntrySource.is_entry l.entries n entry;
+      callable : g.E.EntrySource.callable l.entries;
       still : (n : ℕ) → g.E.EntrySource.ready was.entries n → g.E.EntrySource.ready l.entries n;
       later : g.E.EntrySource.later was.entries l.entries;
       site_later : g.S.EntrySink.later was.site l.site;
