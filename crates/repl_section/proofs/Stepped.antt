@@ -19,7 +19,10 @@ use Rattle.global_defs.specs.Fields.{IsReign}
 use Rattle.global_defs.specs.Prefix.{IsPrefix, stamp_at}
 use Rattle.journal_defs.specs.Surviving.{reigns}
 use Rattle.site_store.specs.Following.{remembered_of, reigns_next, IsCovered, IsReignToCome, IsStillSame, HasStayed, HasApplied}
-use Rattle.site_store.specs.Owning.{disk_of, memory_of, IsGoing, HasStopped}
+use Rattle.site_store.specs.Owning.{disk_of, memory_of, IsGoing, HasStopped, IsOpenSite}
+use Rattle.site_defs.specs.Contents.{Contents}
+use Rattle.feeding_defs.specs.Feeding.{fed}
+use Rattle.repl_section.specs.Becoming.{opens_same}
 use Rattle.site_store.specs.Site.{count_of}
 use Rattle.site_store.specs.declared.memory.Memory.{Memory}
 use Rattle.repl_section.specs.declared.story.Story.{Story}
@@ -29,18 +32,25 @@ use Rattle.repl_section.specs.Followers.{copy_of, HasFollowed, HasFailed, IsFoll
 pub no_fault : {k : ℕ} (o : Option ℕ) → o ≡ None → o ≡ Some k → ⊥
 no_fault o none some = cc
 
+-- whatever a follower was open with, it is open with that and what came
+abbrev pub Opens : {D : Type 0} → (D → View) → Follower D → Follower D → Type 0
+Opens view a b = IsFollowing view b → (known : Bool) (c : Contents) (h : ℕ) → IsOpenSite view known c h a.site
+    → IsOpenSite view known (fed (reigns (memory_of b.site).instance.records) b.story.sequence (length b.story.sequence) c) (memory_of b.site).hardened b.site
+
 -- one call of a follower that went on
 pub followed_as : {D : Type 0} (view : D → View) (a b : Follower D) → IsFollowing view a → b.session ≡ a.session → (view (disk_of b.site)).simulated ≡ (view (disk_of a.site)).simulated
     → (IsSome (view (disk_of a.site)).content → IsSome (view (disk_of b.site)).content) → (view (disk_of a.site)).faults ≤ (view (disk_of b.site)).faults
-    → IsPrefix a.story.sequence b.story.sequence → IsPrefix (reigns (memory_of a.site).instance.records) (reigns (memory_of b.site).instance.records)
-    → IsFollowing view b ⊎ HasFailed view a b → HasFollowed view a b
-followed_as view a b on session simulated told faults story reigns_on going = record {
+    → IsPrefix a.story.sequence b.story.sequence → (reigns_on : IsPrefix (reigns (memory_of a.site).instance.records) (reigns (memory_of b.site).instance.records))
+    → AllByRecursion (λ (r : Reign). length a.story.sequence < r.start) reigns_on.0 → Opens view a b → IsFollowing view b ⊎ HasFailed view a b → HasFollowed view a b
+followed_as view a b on session simulated told faults story reigns_on begins opens going = record {
   session = session;
   simulated = simulated;
   still_told = told;
   faults = faults;
   story = story;
   reigns_on = reigns_on;
+  begins = begins;
+  opens = λ _ on_b. opens on_b;
   going = λ _. going;
   stopped = λ fault is. absurd (no_fault {k = fault} _ on.site.fault is);
 }
@@ -71,10 +81,10 @@ still_following view a b on going story same count remembered =
       may_come = subst (λ (o : Option Reign). IfSome o (IsReignToCome (memory_of b.site))) (sym remembered) (come_again (remembered_of a.site) (memory_of a.site) (memory_of b.site) count same on.may_come);
     }
 
-pub same_front : {X : Type 0} (a : List X) → IsPrefix a a
+abbrev pub same_front : {X : Type 0} (a : List X) → IsPrefix a a
 same_front a = ([], sym (append-nil a))
 
-pub front_by : {X : Type 0} (a b : List X) → b ≡ a → IsPrefix a b
+abbrev pub front_by : {X : Type 0} (a b : List X) → b ≡ a → IsPrefix a b
 front_by a b same = ([], same ∙ sym (append-nil a))
 
 pub length-idle : (n : ℕ) → length (idle n) ≡ n
@@ -175,14 +185,25 @@ applied_following view a b rs t on going story coming applied covered =
 abbrev with_all : ℕ → Sequence → List Reign → Option Reign → Globals → Copy
 with_all h all rs o g = record { sequence = all; hardened = h; reigns = rs; remembered = o; globals = g }
 
+-- it has the entry under that stamp
+pub one_more : {D : Type 0} (view : D → View) (a b : Follower D) (rs : List Reign) (t : Transaction) (stamp : Stamp) → IsFollowing view a → b.story.sequence ≡ told_on a.story.sequence (rs ++ a.story.coming) t
+    → rs ≡ reigns (memory_of a.site).instance.records → stamp_at (copies.next_of (copy_of a)) (copies.reigns_next (copy_of a)) ≡ Some stamp → b.story.sequence ≡ a.story.sequence ++ record { stamp = stamp; transaction = t } ∷ []
+one_more view a b rs t stamp on story same under =
+    let next : rs ++ a.story.coming ≡ reigns_next a.site = ap (λ (l : List Reign). l ++ a.story.coming) same ∙ ap (λ (l : List Reign). reigns (memory_of a.site).instance.records ++ l) on.coming in
+    story ∙ ap (λ (s : Stamp). a.story.sequence ++ record { stamp = s; transaction = t } ∷ []) (ap (λ (l : List Reign). stamp_or (stamp_at (length a.story.sequence + 1) l)) next ∙ ap stamp_or under)
+
+-- a reign that it remembers begins past its entries
+pub coming_past : (o : Option Reign) (m : Memory) (n : ℕ) → n ≡ count_of m → IfSome o (IsReignToCome m) → AllByRecursion (λ (r : Reign). n < r.start) (option_to_list o)
+coming_past None m n same may = tt
+coming_past (Some r) m n same may = (let start = may.start in omega (arith, start, same), tt)
+
 -- so it is taken
 pub takes_applied : {D : Type 0} (view : D → View) (a b : Follower D) (rs : List Reign) (t : Transaction) (stamp : Stamp) → IsFollowing view a → b.story.sequence ≡ told_on a.story.sequence (rs ++ a.story.coming) t
     → rs ≡ reigns (memory_of a.site).instance.records → (memory_of b.site).hardened ≡ (memory_of a.site).hardened → HasApplied a.site b.site t
     → stamp_at (copies.next_of (copy_of a)) (copies.reigns_next (copy_of a)) ≡ Some stamp → Takes t (copy_of a) (copy_of b)
 takes_applied view a b rs t stamp on story same hardened applied under =
-    let next : rs ++ a.story.coming ≡ reigns_next a.site = ap (λ (l : List Reign). l ++ a.story.coming) same ∙ ap (λ (l : List Reign). reigns (memory_of a.site).instance.records ++ l) on.coming in
     let all : Sequence = a.story.sequence ++ record { stamp = stamp; transaction = t } ∷ [] in
-    let has : b.story.sequence ≡ all = story ∙ ap (λ (s : Stamp). a.story.sequence ++ record { stamp = s; transaction = t } ∷ []) (ap (λ (l : List Reign). stamp_or (stamp_at (length a.story.sequence + 1) l)) next ∙ ap stamp_or under) in (
+    let has : b.story.sequence ≡ all = one_more view a b rs t stamp on story same under in (
       stamp,
       under,
       ap (λ (h : ℕ). with_all h b.story.sequence (reigns (memory_of b.site).instance.records) (remembered_of b.site) (joined (memory_of b.site).globals)) hardened
@@ -206,6 +227,7 @@ pub record Leaves {D : Type 0} (view : D → View) (a : Follower D) (t : Transac
   pub out : HasStayed a.site s ⊎ HasApplied a.site s t
   pub hardened : (memory_of s).hardened ≡ (memory_of a.site).hardened
   pub went : (IsGoing view s × HasStayed a.site s) ⊎ ((fault : ℕ) × HasStopped fault s × Rose (view (disk_of a.site)).faults fault × (fault ≤ (view (disk_of s)).faults))
+  pub stays : IsGoing view s → (known : Bool) (c : Contents) (h : ℕ) → IsOpenSite view known c h a.site → IsOpenSite view known c h s
   pub simulated : (view (disk_of s)).simulated ≡ (view (disk_of a.site)).simulated
   pub still_told : IsSome (view (disk_of a.site)).content → IsSome (view (disk_of s)).content
   pub faults : (view (disk_of a.site)).faults ≤ (view (disk_of s)).faults
@@ -257,9 +279,18 @@ left_story : {D : Type 0} (a b : Follower D) (rs : List Reign) (t : Transaction)
 left_story a b rs t told (inl stayed) = front_by a.story.sequence b.story.sequence (ap (λ (s : Story). s.sequence) (as_before a b rs t told stayed))
 left_story a b rs t told (inr applied) = (_, as_told a b rs t told applied)
 
-left_reigns : {D : Type 0} (a b : Follower D) (t : Transaction) → HasStayed a.site b.site ⊎ HasApplied a.site b.site t → IsPrefix (reigns (memory_of a.site).instance.records) (reigns (memory_of b.site).instance.records)
+abbrev left_reigns : {D : Type 0} (a b : Follower D) (t : Transaction) → HasStayed a.site b.site ⊎ HasApplied a.site b.site t → IsPrefix (reigns (memory_of a.site).instance.records) (reigns (memory_of b.site).instance.records)
 left_reigns a b t (inl stayed) = front_by _ _ stayed.reigns_are
 left_reigns a b t (inr applied) = (option_to_list (remembered_of a.site), applied.reigns_are)
+
+left_begins : {D : Type 0} (view : D → View) (a b : Follower D) (t : Transaction) → IsFollowing view a → (out : HasStayed a.site b.site ⊎ HasApplied a.site b.site t) → AllByRecursion (λ (r : Reign). length a.story.sequence < r.start) (left_reigns a b t out).0
+left_begins view a b t on (inl stayed) = tt
+left_begins view a b t on (inr applied) = coming_past (remembered_of a.site) (memory_of a.site) (length a.story.sequence) on.told on.may_come
+
+left_opens : {D : Type 0} (view : D → View) (a b : Follower D) (rs : List Reign) (t : Transaction) → IsFollowing view a → IsTold a b rs t → Leaves view a t b.site
+    → (IsGoing view b.site × HasStayed a.site b.site) ⊎ ((fault : ℕ) × HasStopped fault b.site × Rose (view (disk_of a.site)).faults fault × (fault ≤ (view (disk_of b.site)).faults)) → Opens view a b
+left_opens view a b rs t on told left (inl x) on_b known c h is = opens_same view a b on (ap (λ (s : Story). s.sequence) (as_before a b rs t told x.1)) known c h h is (left.stays x.0 known c h is)
+left_opens view a b rs t on told left (inr x) on_b known c h is = absurd (no_fault {k = x.0} b.site.fault on_b.site.fault x.1)
 
 left_going : {D : Type 0} (view : D → View) (a b : Follower D) (rs : List Reign) (t : Transaction) → IsFollowing view a → IsTold a b rs t
     → (IsGoing view b.site × HasStayed a.site b.site) ⊎ ((fault : ℕ) × HasStopped fault b.site × Rose (view (disk_of a.site)).faults fault × (fault ≤ (view (disk_of b.site)).faults)) → IsFollowing view b ⊎ HasFailed view a b
@@ -268,4 +299,4 @@ left_going view a b rs t on told (inr x) = inr x
 
 pub left_later : {D : Type 0} (view : D → View) (a b : Follower D) (rs : List Reign) (t : Transaction) → IsFollowing view a → IsTold a b rs t → b.session ≡ a.session → Leaves view a t b.site → HasFollowed view a b
 left_later view a b rs t on told session left =
-    followed_as view a b on session left.simulated left.still_told left.faults (left_story a b rs t told left.out) (left_reigns a b t left.out) (left_going view a b rs t on told left.went)
+    followed_as view a b on session left.simulated left.still_told left.faults (left_story a b rs t told left.out) (left_reigns a b t left.out) (left_begins view a b t on left.out) (left_opens view a b rs t on told left left.went) (left_going view a b rs t on told left.went)

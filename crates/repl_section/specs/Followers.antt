@@ -1,16 +1,18 @@
 -- A follower of a section, as an Update Process sees it, what it may have become, and what its primary shows of entries.
 --
 -- Of what it was opened with only the number of its entries is told; those that came since are told in full. So whatever contents its site is open with, they grow by these.
-use Rattle.std.specs.Prelude.{◌≡◌, ◌⊎◌, ℕ, ◌≤◌, IsSome, option_to_list, length, IfSome}
+use Rattle.std.specs.Prelude.{◌≡◌, ◌⊎◌, ℕ, ◌<◌, ◌≤◌, Bool, IsSome, option_to_list, length, IfSome}
 use Rattle.std.specs.List.{AllByRecursion}
 use Rattle.disk_defs.specs.Disk.{View, Rose}
+use Rattle.feeding_defs.specs.Feeding.{fed}
 use Rattle.global_defs.specs.Entry.{Reign}
 use Rattle.global_defs.specs.Fields.{IsReign}
 use Rattle.global_defs.specs.Prefix.{IsPrefix, History}
 use Rattle.journal_defs.specs.Surviving.{reigns}
 use Rattle.region_store.specs.Joined.{joined}
+use Rattle.site_defs.specs.Contents.{Contents}
 use Rattle.site_store.specs.Following.{remembered_of, reigns_next, IsCovered, IsReignToCome}
-use Rattle.site_store.specs.Owning.{disk_of, memory_of, HasStopped, IsGoing}
+use Rattle.site_store.specs.Owning.{disk_of, memory_of, HasStopped, IsGoing, IsOpenSite}
 use Rattle.site_store.specs.Site.{count_of}
 use Rattle.site_store.specs.declared.site.Site.{Site}
 use Rattle.session_turns.specs.Following.{IsFitCopy}
@@ -60,6 +62,11 @@ pub record HasFollowed {D : Type 0} (view : D → View) (a b : Follower D) : Typ
   -- entries came behind its own, and reigns behind its reigns
   pub story : IsPrefix a.story.sequence b.story.sequence
   pub reigns_on : IsPrefix (reigns (memory_of a.site).instance.records) (reigns (memory_of b.site).instance.records)
+  -- those begin past the entries that it had
+  pub begins : AllByRecursion (λ (r : Reign). length a.story.sequence < r.start) reigns_on.0
+  -- whatever it was open with, it is open with that and what came
+  pub opens : IsFollowing view a → IsFollowing view b → (told : Bool) (c : Contents) (h : ℕ) → IsOpenSite view told c h a.site
+      → IsOpenSite view told (fed (reigns (memory_of b.site).instance.records) b.story.sequence (length b.story.sequence) c) (memory_of b.site).hardened b.site
   -- it goes on, or a call of its disk failed; one that had failed stays so
   pub going : IsFollowing view a → IsFollowing view b ⊎ HasFailed view a b
   pub stopped : (fault : ℕ) → HasStopped fault a.site → b ≡ a

@@ -3,6 +3,7 @@ pub mod Replies
 pub mod Lines
 pub mod Deciding
 pub mod Stories
+pub mod Growing
 pub mod Followers
 pub mod Ends
 pub mod Becoming

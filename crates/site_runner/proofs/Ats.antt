@@ -16,7 +16,8 @@ use Rattle.world_defs.specs.World as world
 use Rattle.command_defs.specs.Commands.{Name}
 use Rattle.world_defs.specs.World.{Place, Covers, CoversSo, has_failed, has_failed_on, Kept, StandAfter, StandAsBefore}
 use Rattle.site_defs.specs.Contents.{Contents, Leftover, Standing, NO_LEFTOVER, nothing, is_made, bare}
-use Rattle.world_defs.specs.Answers.{Cause, Refusal, Section, Done, Refused, DiskFault, NotAFile, Ran, Typed, line, cause_text, refusal_line, fault_line, damage_line}
+use Rattle.world_defs.specs.Sections.{Section}
+use Rattle.world_defs.specs.Answers.{Cause, Refusal, Answer, Done, Refused, DiskFault, NotAFile, Ran, Typed, line, cause_text, refusal_line, fault_line, damage_line}
 use Rattle.world_defs.specs.Row.{Row, first, in_state, or_else, refused_with, refusal_in}
 use Rattle.site_defs.specs.Fronts.{with_sequence}
 use Rattle.site_defs.specs.Opening.{IsBehind}
@@ -30,7 +31,7 @@ use Rattle.site_runner.specs.declared.ending.Ended.TheVariants as ends
 use Rattle.site_runner.specs.Ending.{is_done_at}
 use Rattle.site_runner.specs.Causes.{cause_value}
 use Rattle.site_runner.specs.Sites.{state_value, site_value, State, Down, Failed, Site}
-use Rattle.site_runner.specs.Executes.{Comes}
+use Rattle.site_runner.specs.Executes.{Comes, ComesOver}
 use Rattle.site_runner.specs.Steps.{IsAt, ExecutesAt}
 use Rattle.site_store.proofs.Unwritten.{some_and_read as some_and}
 use Rattle.site_files.proofs.WhatIsRead.{instance_one}
@@ -110,6 +111,22 @@ comes_ran {row} s q e d at t = record { answer = Ran s; becomes = q; text = row.
 
 pub comes_typed : {row : Row} {S : Place → Type 0} {before now : List ℕ} (bytes : List ℕ) (q : Place) → refusal_in row ≡ None → row.typed bytes q → row.by_bytes (Typed bytes) → S q → now ≡ before ++ bytes → Comes row S before now false
 comes_typed bytes q e d b s t = record { answer = Typed bytes; becomes = q; text = bytes; here = (e, d, refl, b); there = s; written = t; done = refl }
+
+-- the same, with what the answer tells of links
+
+pub over_done : {row : Row} {S : Place → Type 0} {L : Answer → Type 0} {before now : List ℕ} (q : Place) → refusal_in row ≡ None → row.done q → row.by_bytes Done → S q → now ≡ before ++ row.says q → L Done → ComesOver row S L before now true
+over_done {row} q e d b s t l = record { comes = record { answer = Done; becomes = q; text = row.says q; here = (e, d, refl, b); there = s; written = t; done = refl }; linked = l }
+
+pub over_refused : {row : Row} {S : Place → Type 0} {L : Answer → Type 0} {before now : List ℕ} (r : Refusal) (q : Place) → ((refusal_in row ≡ Some r) × row.refused r q) ⊎ ((row.early ≡ None) × row.may_refuse r q) → row.by_bytes (Refused r) → S q → now ≡ before ++ refusal_line r → L (Refused r)
+    → ComesOver row S L before now false
+over_refused r q d b s t l = record { comes = record { answer = Refused r; becomes = q; text = refusal_line r; here = (d, refl, b); there = s; written = t; done = refl }; linked = l }
+
+pub over_fault : {row : Row} {S : Place → Type 0} {L : Answer → Type 0} {before now : List ℕ} (k : ℕ) (q : Place) → row.early ≡ None → row.fault k q → S q → now ≡ before ++ fault_line row.word k → L (DiskFault k) → ComesOver row S L before now false
+over_fault {row} k q e d s t l = record { comes = record { answer = DiskFault k; becomes = q; text = fault_line row.word k; here = (e, d, refl); there = s; written = t; done = refl }; linked = l }
+
+pub over_damaged : {row : Row} {S : Place → Type 0} {L : Answer → Type 0} {before now : List ℕ} (file offset : ℕ) (q : Place) → row.early ≡ None → row.damage file offset q → row.by_bytes (NotAFile file offset) → S q → now ≡ before ++ damage_line row.word file offset → L (NotAFile file offset)
+    → ComesOver row S L before now false
+over_damaged {row} file offset q e d b s t l = record { comes = record { answer = NotAFile file offset; becomes = q; text = damage_line row.word file offset; here = (e, d, refl, b); there = s; written = t; done = refl }; linked = l }
 
 -- the same of places that are tied otherwise
 pub comes_so : {row : Row} {S T : Place → Type 0} {before now : List ℕ} {ended : Bool} → ((q : Place) → S q → T q) → Comes row S before now ended → Comes row T before now ended

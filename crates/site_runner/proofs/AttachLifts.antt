@@ -2,6 +2,7 @@
 use Rattle.std.proofs.Common.{◌≡◌, ◌≢◌, ◌⊎◌, ℕ, zero, suc, Bool, true, false, cond, not, nat_lt, List, [], ◌∷◌, ◌++◌, length, set, take, None, Some, refl, sym, ◌∙◌, ap, subst, arith, inl, inr, Ok, Err}
 use Rattle.std.specs.Prelude.{Option, Result, option_map, slice_get, remove, codes, is_some, OnOk, OnErr}
 use Rattle.std.proofs.lemmas.Bool.{false≢true, and_parts, lt-ltb}
+use Rattle.wire_defs.specs.Links.{Linking}
 use Rattle.disk_defs.specs.Disk.{View}
 use Rattle.std.specs.List.{AllZip}
 use Rattle.journal_defs.specs.Numbers.{INSTANCE}
@@ -24,7 +25,7 @@ use Rattle.site_runner.specs.declared.slot.Slot.TheVariants.{Free, Down}
 use Rattle.gvn_key.specs.declared.bytes.NoMemory as memory
 use Rattle.site_runner.specs.declared.ending.Ended.{Ended}
 use Rattle.site_runner.specs.Sites.{is_slot_named, IsOf, disk_in, is_slot_free}
-use Rattle.site_runner.specs.Tied.{IsPlace, Tied}
+use Rattle.site_runner.specs.Tied.{IsPlace, ArePlaces}
 use Rattle.site_runner.specs.Executes.{Comes, ExecutesHere, Executes, IsCutOff}
 use Rattle.site_runner.specs.Looking.{fits, IsFoundBy, Finds, LooksHere, Tells}
 use Rattle.site_runner.specs.Attaching.{Takes, AttachesHere}
@@ -42,35 +43,35 @@ use Rattle.site_runner.proofs.Results.{err_holds as err_so}
 attach_acts : {D : Type 0} (view : D → View) (slots : List (Slot D)) (i : ℕ) → first_where is_slot_free (take 8 slots) ≡ Some i → ActsBy view Attach attach slots i
 attach_acts view slots i f w h p g = means_there (refusing ATTACHING NoDisk) w (next_of w) i p (λ i p. Acts i (attach w p) apart) (next_of_slot view slots w h ∙ f) g
 
-attach_lifted : {D : Type 0} (view : D → View) (slots : List (Slot D)) (i : ℕ) (x s : Slot D) (before now : List ℕ) (done : Bool) → slice_get slots i ≡ Some x → first_where is_slot_free (take 8 slots) ≡ Some i
-    → ((w : World) → Tied view slots w → ExecutesHere view (attach w) x s before now done) → Executes view Attach slots (set slots i s) before now
-attach_lifted view slots i x s before now done k f does = lifted view Attach attach slots i x s before now done k (attach_acts view slots i f) does
+attach_lifted : {D : Type 0} (view : D → View) (links : Linking) (slots : List (Slot D)) (i : ℕ) (x s : Slot D) (before now : List ℕ) (done : Bool) → slice_get slots i ≡ Some x → first_where is_slot_free (take 8 slots) ≡ Some i
+    → ((w : World) → ArePlaces view slots w → ExecutesHere view (attach w) x s before now done) → Executes view Attach links links slots (set slots i s) before now
+attach_lifted view links slots i x s before now done k f does = lifted view Attach attach links slots i x s before now done k (attach_acts view slots i f) does
 
-attach_cut : {D : Type 0} (view : D → View) (slots : List (Slot D)) (i : ℕ) (x mid s : Slot D) (found : Result (Option Layout) SiteError) → slice_get slots i ≡ Some x → first_where is_slot_free (take 8 slots) ≡ Some i
-    → LooksHere view x mid found → disk_in s ≡ disk_in mid → IsCutOff view Attach slots (set slots i s)
-attach_cut {D} view slots i x mid s found k f look same =
-    lifted_cut view Attach attach slots i x s k (attach_acts view slots i f) (λ w p h. let r = looked_cut view x mid (attach w) found look p h in (r.0, r.1, subst (λ (d : D). Matches (view d) r.0) (sym same) r.2))
+attach_cut : {D : Type 0} (view : D → View) (links : Linking) (slots : List (Slot D)) (i : ℕ) (x mid s : Slot D) (found : Result (Option Layout) SiteError) → slice_get slots i ≡ Some x → first_where is_slot_free (take 8 slots) ≡ Some i
+    → LooksHere view x mid found → disk_in s ≡ disk_in mid → IsCutOff view Attach links slots (set slots i s)
+attach_cut {D} view links slots i x mid s found k f look same =
+    lifted_cut view Attach attach links slots i x s k (attach_acts view slots i f) (λ w p h. let r = looked_cut view x mid (attach w) found look p h in (r.0, r.1, subst (λ (d : D). Matches (view d) r.0) (sym same) r.2))
 
 -- there is no disk left
-pub no_disk_to_attach : {D : Type 0} (view : D → View) (slots : List (Slot D)) (before now : List ℕ) → first_where is_slot_free (take 8 slots) ≡ None → now ≡ before ++ line ATTACHING (codes "NODISK") → Executes view Attach slots slots before now
-no_disk_to_attach view slots before now f t =
-    refused_anywhere view Attach (record { site = ATTACHING; cause = NoDisk }) slots before now (λ w h. means_none (refusing ATTACHING NoDisk) w (next_of w) (λ i p. Acts i (attach w p) apart) (next_of_slot view slots w h ∙ f)) t
+pub no_disk_to_attach : {D : Type 0} (view : D → View) (links : Linking) (slots : List (Slot D)) (before now : List ℕ) → first_where is_slot_free (take 8 slots) ≡ None → now ≡ before ++ line ATTACHING (codes "NODISK") → Executes view Attach links links slots slots before now
+no_disk_to_attach view links slots before now f t =
+    refused_anywhere view Attach (record { site = ATTACHING; cause = NoDisk }) links slots before now (λ w h. means_none (refusing ATTACHING NoDisk) w (next_of w) (λ i p. Acts i (attach w p) apart) (next_of_slot view slots w h ∙ f)) t
 
-pub attach_not_begun : {D : Type 0} (view : D → View) (slots : List (Slot D)) → IsCutOff view Attach slots slots
-attach_not_begun view slots = cut_nothing view slots Attach (λ w. cut_there (refusing ATTACHING NoDisk) w (next_of w) (λ i p. Acts i (attach w p) apart) (cut_no w (record { site = ATTACHING; cause = NoDisk })) (λ i p e. cut_acts w i p (attach w p) e))
+pub attach_not_begun : {D : Type 0} (view : D → View) (links : Linking) (slots : List (Slot D)) → IsCutOff view Attach links slots slots
+attach_not_begun view links slots = cut_nothing view links slots Attach (λ w. cut_there (refusing ATTACHING NoDisk) w (next_of w) (λ i p. Acts i (attach w p) apart) (cut_no w (record { site = ATTACHING; cause = NoDisk })) (λ i p e. cut_acts w i p (attach w p) e))
 
 -- the look failed
-attach_failed : {D : Type 0} (view : D → View) (slots : List (Slot D)) (i : ℕ) (x s : Slot D) (e : SiteError) (before now : List ℕ) → slice_get slots i ≡ Some x → first_where is_slot_free (take 8 slots) ≡ Some i
-    → LooksHere view x s (Err e) → Tells e ATTACHING before now → Executes view Attach slots (set slots i s) before now
-attach_failed view slots i x s (Failed fault) before now k f look t = attach_lifted view slots i x s before now false k f (λ w h p at_p. let r = look p at_p in comes_fault fault r.0 refl r.1.0 r.2 t)
-attach_failed view slots i x s (Stopped fault) before now k f look t = absurd t
-attach_failed view slots i x s (Full nodes) before now k f look t = absurd t
-attach_failed view slots i x s SeqLimit before now k f look t = absurd t
-attach_failed view slots i x s GenLimit before now k f look t = absurd t
-attach_failed view slots i x s ReignLimit before now k f look t = absurd t
-attach_failed view slots i x s (NeedForward needing) before now k f look t = absurd t
-attach_failed view slots i x s (NotAFile file offset) before now k f look t = attach_lifted view slots i x s before now false k f (λ w h p at_p. let r = look p at_p in comes_damaged file offset r.0 refl r.1.0 r.1.1 r.2 t)
-attach_failed view slots i x s NoMemory before now k f look t = absurd t
+attach_failed : {D : Type 0} (view : D → View) (links : Linking) (slots : List (Slot D)) (i : ℕ) (x s : Slot D) (e : SiteError) (before now : List ℕ) → slice_get slots i ≡ Some x → first_where is_slot_free (take 8 slots) ≡ Some i
+    → LooksHere view x s (Err e) → Tells e ATTACHING before now → Executes view Attach links links slots (set slots i s) before now
+attach_failed view links slots i x s (Failed fault) before now k f look t = attach_lifted view links slots i x s before now false k f (λ w h p at_p. let r = look p at_p in comes_fault fault r.0 refl r.1.0 r.2 t)
+attach_failed view links slots i x s (Stopped fault) before now k f look t = absurd t
+attach_failed view links slots i x s (Full nodes) before now k f look t = absurd t
+attach_failed view links slots i x s SeqLimit before now k f look t = absurd t
+attach_failed view links slots i x s GenLimit before now k f look t = absurd t
+attach_failed view links slots i x s ReignLimit before now k f look t = absurd t
+attach_failed view links slots i x s (NeedForward needing) before now k f look t = absurd t
+attach_failed view links slots i x s (NotAFile file offset) before now k f look t = attach_lifted view links slots i x s before now false k f (λ w h p at_p. let r = look p at_p in comes_damaged file offset r.0 refl r.1.0 r.1.1 r.2 t)
+attach_failed view links slots i x s NoMemory before now k f look t = absurd t
 
 no_records : (rs : List InstanceRecord) → not (nat_lt 0 (length rs)) ≡ true → rs ≡ []
 no_records [] e = refl
@@ -90,10 +91,10 @@ named_by : (p : Place) (found : Layout) → IfShown p (IsFoundBy (Some found)) �
 named_by p found h = if_some p.shown (IsFoundBy (Some found)) (IsNamedBy found.name) (λ f k. (k.0, k.1, (k.2.0, sym k.2.1.name))) h
 
 -- no site stands on the disk
-attach_empty : {D : Type 0} (view : D → View) (slots : List (Slot D)) (i : ℕ) (x s : Slot D) (before now : List ℕ) → slice_get slots i ≡ Some x → first_where is_slot_free (take 8 slots) ≡ Some i
-    → LooksHere view x s (Ok None) → now ≡ before ++ line ATTACHING (codes "EMPTY") → Executes view Attach slots (set slots i s) before now
-attach_empty view slots i x s before now k f look t =
-    attach_lifted view slots i x s before now false k f (λ w h p at_p. let r = look p at_p in elim (is_true_or_false p.told) [
+attach_empty : {D : Type 0} (view : D → View) (links : Linking) (slots : List (Slot D)) (i : ℕ) (x s : Slot D) (before now : List ℕ) → slice_get slots i ≡ Some x → first_where is_slot_free (take 8 slots) ≡ Some i
+    → LooksHere view x s (Ok None) → now ≡ before ++ line ATTACHING (codes "EMPTY") → Executes view Attach links links slots (set slots i s) before now
+attach_empty view links slots i x s before now k f look t =
+    attach_lifted view links slots i x s before now false k f (λ w h p at_p. let r = look p at_p in elim (is_true_or_false p.told) [
       | inl known ↦ comes_refused (record { site = ATTACHING; cause = Empty }) r.0 (rw (known, no_records p.now.instance (r.1.now known)) refl) r.1.kept (none_there p r.1.bytes) r.2 t
       | inr not ↦ comes_may_refuse (record { site = ATTACHING; cause = Empty }) r.0 refl (inl refl, record { unknown = not; kept = r.1.kept }) (none_there p r.1.bytes) r.2 t
     ])
@@ -186,33 +187,33 @@ still_free : {D : Type 0} (view : D → View) (x : D) (mid : Slot D) (p q : Plac
 still_free view x mid p q was same h = record { disk = h.disk; site = same ∙ was.site; held = tt }
 
 -- a site was found there, and its name was looked for among the other slots
-attach_found : {D : Type 0} (view : D → View) (slots others : List (Slot D)) (i : ℕ) (x : D) (mid s : Slot D) (found : Layout) (o : Option ℕ) (before now : List ℕ) → slice_get slots i ≡ Some (Free x) → first_where is_slot_free (take 8 slots) ≡ Some i
-    → others ≡ remove slots i → LooksHere view (Free x) mid (Ok (Some found)) → first_where (is_slot_named found.name) others ≡ o → Takes o found.name (disk_in mid) s before now → Executes view Attach slots (set slots i s) before now
-attach_found {D} view slots others i x mid s found None before now k f rest look e t =
+attach_found : {D : Type 0} (view : D → View) (links : Linking) (slots others : List (Slot D)) (i : ℕ) (x : D) (mid s : Slot D) (found : Layout) (o : Option ℕ) (before now : List ℕ) → slice_get slots i ≡ Some (Free x) → first_where is_slot_free (take 8 slots) ≡ Some i
+    → others ≡ remove slots i → LooksHere view (Free x) mid (Ok (Some found)) → first_where (is_slot_named found.name) others ≡ o → Takes o found.name (disk_in mid) s before now → Executes view Attach links links slots (set slots i s) before now
+attach_found {D} view links slots others i x mid s found None before now k f rest look e t =
     let named = is_slot_named found.name in
     let search : first_where named slots ≡ None = passed_over named slots i (Free x) k refl (sym (ap (first_where named) rest) ∙ e) in
-    attach_lifted view slots i (Free x) s before now true k f (λ w h p at_p.
+    attach_lifted view links slots i (Free x) s before now true k f (λ w h p at_p.
     let r = look p at_p in
     let free = still_free view x mid p r.0 at_p r.1.kept.site r.2 in
     subst (λ (y : Slot D). Comes (attach w p) (IsPlace view y) before now true) (sym t.0) (attached view w p r.0 found (disk_in mid) before now r.1 (place_of_slot view slots w found.name h ∙ search) free t.1))
-attach_found {D} view slots others i x mid s found (Some j) before now k f rest look e t =
+attach_found {D} view links slots others i x mid s found (Some j) before now k f rest look e t =
     let named = is_slot_named found.name in
     let search = found_among named slots i j (Free x) k refl (sym (ap (first_where named) rest) ∙ e) in
-    attach_lifted view slots i (Free x) s before now false k f (λ w h p at_p.
+    attach_lifted view links slots i (Free x) s before now false k f (λ w h p at_p.
     let r = look p at_p in
     let free = still_free view x mid p r.0 at_p r.1.kept.site r.2 in
     subst (λ (y : Slot D). Comes (attach w p) (IsPlace view y) before now false) (sym t.0) (refused_exists view w p r.0 search.0 found (Free (disk_in mid)) before now r.1 (place_of_slot view slots w found.name h ∙ search.1) free t.1))
 
-module _ {D : Type 0} (view : D → View) (slots others : List (Slot D)) (i : ℕ) (x : D) (left : Slot D × Result Ended memory.NoMemory) (before now : List ℕ) (k : slice_get slots i ≡ Some (Free x)) (f : first_where is_slot_free (take 8 slots) ≡ Some i) (rest : others ≡ remove slots i) where
+module _ {D : Type 0} (view : D → View) (links : Linking) (slots others : List (Slot D)) (i : ℕ) (x : D) (left : Slot D × Result Ended memory.NoMemory) (before now : List ℕ) (k : slice_get slots i ≡ Some (Free x)) (f : first_where is_slot_free (take 8 slots) ≡ Some i) (rest : others ≡ remove slots i) where
   -- what ATTACH made of the next disk's slot, among the slots
-  pub attach_done : AttachesHere view others (Free x) left before now → OnOk left.1 (Executes view Attach slots (set slots i left.0) before now)
+  pub attach_done : AttachesHere view others (Free x) left before now → OnOk left.1 (Executes view Attach links links slots (set slots i left.0) before now)
   attach_done (Ok None, mid, look, (same, t)) =
-      on_ok left.1 _ _ t (λ e. subst (λ (s : Slot D). Executes view Attach slots (set slots i s) before now) (sym same) (attach_empty view slots i (Free x) mid before now k f look e))
-  attach_done (Ok (Some found), mid, look, (same, t)) = on_ok left.1 _ _ t (λ e. attach_found view slots others i x mid left.0 found (first_where (is_slot_named found.name) others) before now k f rest look refl e)
+      on_ok left.1 _ _ t (λ e. subst (λ (s : Slot D). Executes view Attach links links slots (set slots i s) before now) (sym same) (attach_empty view links slots i (Free x) mid before now k f look e))
+  attach_done (Ok (Some found), mid, look, (same, t)) = on_ok left.1 _ _ t (λ e. attach_found view links slots others i x mid left.0 found (first_where (is_slot_named found.name) others) before now k f rest look refl e)
   attach_done (Err error, mid, look, (same, t)) =
-      on_ok left.1 _ _ t (λ e. subst (λ (s : Slot D). Executes view Attach slots (set slots i s) before now) (sym same) (attach_failed view slots i (Free x) mid error before now k f look e))
+      on_ok left.1 _ _ t (λ e. subst (λ (s : Slot D). Executes view Attach links links slots (set slots i s) before now) (sym same) (attach_failed view links slots i (Free x) mid error before now k f look e))
 
-  pub attach_cut_off : AttachesHere view others (Free x) left before now → OnErr left.1 (IsCutOff view Attach slots (set slots i left.0))
-  attach_cut_off (Ok None, mid, look, (same, t)) = err_so left.1 _ (attach_cut view slots i (Free x) mid left.0 (Ok None) k f look (ap disk_in same))
-  attach_cut_off (Ok (Some found), mid, look, (same, t)) = err_so left.1 _ (attach_cut view slots i (Free x) mid left.0 (Ok (Some found)) k f look same)
-  attach_cut_off (Err error, mid, look, (same, t)) = err_so left.1 _ (attach_cut view slots i (Free x) mid left.0 (Err error) k f look (ap disk_in same))
+  pub attach_cut_off : AttachesHere view others (Free x) left before now → OnErr left.1 (IsCutOff view Attach links slots (set slots i left.0))
+  attach_cut_off (Ok None, mid, look, (same, t)) = err_so left.1 _ (attach_cut view links slots i (Free x) mid left.0 (Ok None) k f look (ap disk_in same))
+  attach_cut_off (Ok (Some found), mid, look, (same, t)) = err_so left.1 _ (attach_cut view links slots i (Free x) mid left.0 (Ok (Some found)) k f look same)
+  attach_cut_off (Err error, mid, look, (same, t)) = err_so left.1 _ (attach_cut view links slots i (Free x) mid left.0 (Err error) k f look (ap disk_in same))

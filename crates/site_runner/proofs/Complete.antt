@@ -1,6 +1,6 @@
 -- Which status a run ends with where nothing fails.
 use Rattle.std.proofs.Common.{◌≡◌, ℕ, List, [], None, Some, refl, ap, ◌∙◌, subst, inl, inr, arith}
-use Rattle.std.specs.Prelude.{Option, IfSome, ◌⊎◌}
+use Rattle.std.specs.Prelude.{Option, IfSome, ◌⊎◌, ◌≢◌}
 use Rattle.std.proofs.KnownBytes.{Appends-nil}
 use Rattle.command_defs.specs.Lines.{lines_of}
 use Rattle.command_defs.specs.Script.{Outside, IsScript, IsBadAt}
@@ -59,47 +59,53 @@ complete SinkFault due o input source sink e d w s l b f g nf ng = absurd (ng (g
 complete NoMemory due o input source sink e d w s l b f g nf ng = inr refl
 
 -- disks that stay as they are stay fit
-stays : (status : Status) (w : World) → StaysFit status w w
-stays status w = record { outcomes = λ fit. fit_outcomes w fit; world = λ not fit. fit }
+stays : (status : Status) (w : World) → StaysFit status w [] w
+stays status w = record { outcomes = λ none fit. fit_outcomes w fit; world = λ none not fit. fit }
 
 some_input : (o : Option (List ℕ)) → (input : List ℕ) × IsInput o input
 some_input None = ([], tt)
 some_input (Some u) = (u, refl)
 
 -- nothing was read or written
-pub not_run : (w : World) (o out : Option (List ℕ)) (P : World → Type 0) → P w → (after : World) × P after × RanTo BadWords o o w after out out × StaysFit BadWords w after
-not_run w o out P h =
+pub not_run : (w : World) (o out : Option (List ℕ)) (P Q : World → Type 0) → P w → Q w → (after : World) × P after × (BadWords ≢ NoMemory → Q after) × ((r : RanTo BadWords o o w after out out) × StaysFit BadWords w r.went.told after)
+not_run w o out P Q h l =
     let x = some_input o in (
       w,
       h,
-      record {
-        input = x.0;
-        is = x.1;
-        count = 0;
-        within = omega arith;
-        reached = (refl, refl);
-        mid = w;
-        went = record { told = []; output = []; position = Outside; runs = (refl, refl); spelled = refl; formed = tt; writes = Appends-nil out; all = λ h. refl };
-        ends = refl;
-      },
-      stays BadWords w,
+      λ not. l,
+      (
+        record {
+          input = x.0;
+          is = x.1;
+          count = 0;
+          within = omega arith;
+          reached = (refl, refl);
+          mid = w;
+          went = record { told = []; output = []; position = Outside; runs = (refl, refl); spelled = refl; formed = tt; writes = Appends-nil out; all = λ h. refl };
+          ends = refl;
+        },
+        stays BadWords w,
+      ),
     )
 
 -- no memory to begin with
-pub not_begun : (w : World) (o out : Option (List ℕ)) (P : World → Type 0) → P w → (after : World) × P after × RanTo NoMemory o o w after out out × StaysFit NoMemory w after
-not_begun w o out P h =
+pub not_begun : (w : World) (o out : Option (List ℕ)) (P Q : World → Type 0) → P w → Q w → (after : World) × P after × (NoMemory ≢ NoMemory → Q after) × ((r : RanTo NoMemory o o w after out out) × StaysFit NoMemory w r.went.told after)
+not_begun w o out P Q h l =
     let x = some_input o in (
       w,
       h,
-      record {
-        input = x.0;
-        is = x.1;
-        count = 0;
-        within = omega arith;
-        reached = tt;
-        mid = w;
-        went = record { told = []; output = []; position = Outside; runs = (refl, refl); spelled = refl; formed = tt; writes = Appends-nil out; all = λ h. refl };
-        ends = inl refl;
-      },
-      stays NoMemory w,
+      λ not. l,
+      (
+        record {
+          input = x.0;
+          is = x.1;
+          count = 0;
+          within = omega arith;
+          reached = tt;
+          mid = w;
+          went = record { told = []; output = []; position = Outside; runs = (refl, refl); spelled = refl; formed = tt; writes = Appends-nil out; all = λ h. refl };
+          ends = inl refl;
+        },
+        stays NoMemory w,
+      ),
     )

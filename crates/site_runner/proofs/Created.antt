@@ -417,6 +417,7 @@ here_behind regions name p m (DiskFault fault) q t k h = (
   h.2,
 )
 here_behind regions name p m (answers.NotAFile file offset) q t k h = (refl, unknown_behind p m q k h.1, h.2, bytes_behind p m (CreateBy (answers.NotAFile file offset)) k h.3)
+here_behind regions name p m (answers.BadFrame offset) q t k h = absurd h.1
 here_behind regions name p m (Ran s) q t k h = absurd h.1
 here_behind regions name p m (Typed bytes) q t k h = absurd h.1
 

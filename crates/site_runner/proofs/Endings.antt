@@ -1,6 +1,6 @@
 -- Commands that end once their line is written.
 use Rattle.std.proofs.Common.{◌≡◌, ℕ, List, ◌++◌, Some, refl, ◌∙◌, ap, sym, subst}
-use Rattle.std.specs.Prelude.{Result, Ok, Err, OnOk, OnErr, IfOk}
+use Rattle.std.specs.Prelude.{Result, Ok, Err, OnOk, OnErr, IfOk, IsErrOf}
 use Rattle.disk_defs.specs.Disk.{View}
 use Rattle.command_defs.specs.Commands.{Name}
 use Rattle.world_defs.specs.World.{Place}
@@ -8,15 +8,18 @@ use Rattle.world_defs.specs.Row.{Row}
 use Rattle.world_defs.specs.Meaning.{row_at}
 use Rattle.world_defs.specs.rows.Show.{show}
 use Rattle.gvn_key.specs.declared.bytes.NoMemory.{NoMemory}
-use Rattle.repl_section.specs.declared.reign.Reign as code
 use Rattle.site_store.specs.declared.memory.Memory.{Memory}
 use Rattle.site_store.specs.Owning.{memory_of}
 use Rattle.site_runner.specs.declared.slot.Slot.{Slot}
 use Rattle.site_runner.specs.declared.ending.Ended.{Ended}
 use Rattle.site_runner.specs.declared.ending.Ended.TheVariants.{Done}
-use Rattle.site_runner.specs.Ending.{is_done_at, primary}
+use Rattle.site_runner.specs.declared.ending.Ended.TheVariants as ends
+use Rattle.site_store.specs.declared.error.SiteError.{SiteError}
+use Rattle.site_store.specs.declared.error.SiteError.TheVariants as errors
+use Rattle.site_store.specs.declared.site.Site as store
+use Rattle.site_runner.specs.Ending.{Role, open_as, state_as, is_done_at}
 use Rattle.site_runner.specs.Executes.{Leaves}
-use Rattle.site_runner.specs.Sites.{Site, Primary, disk_in, site_in}
+use Rattle.site_runner.specs.Sites.{Site, disk_in, site_in}
 use Rattle.site_runner.specs.Steps.{ExecutesAt, IsCutAt, state_text}
 use Rattle.site_runner.proofs.Results.{err_holds}
 use Rattle.site_runner.proofs.Stopped.{executes_here, cut_here, cut_same, shows_at}
@@ -39,8 +42,14 @@ shows_leaves view slot s name written r before now e same is none t =
     written_leaves view show slot slot s s v written r Done before now e refl e is none
     (on_ok written _ _ t (λ shown. shows_at v s before now (shown ∙ ap (λ (x : Name). before ++ state_text x s.state) same))) (err_holds written _ (cut_same (show s.name) v s))
 
--- a reign that has the same in memory is the same site
-pub primary_still : {D : Type 0} (name : Name) (old new : code.Reign D) → memory_of new.site ≡ memory_of old.site → new.serials ≡ old.serials → primary name new ≡ primary name old
-primary_still name old new e f =
-    let at : Memory → List ℕ → Site = λ (m : Memory) (l : List ℕ). record { name = name; state = Primary (record { site = m; serials = l }) } in
-    ap (λ (m : Memory). at m new.serials) e ∙ ap (at (memory_of old.site)) f
+-- what was read of a site, and how that ended
+pub told_read : {T E : Type 0} (read : Result T SiteError) (r : Result Ended E) (X : Type 0) (F : ℕ → Type 0) (P : Ended → Type 0) → OnOk read (IfOk r (λ e. (e ≡ ends.Undone) × X)) → OnErr read (IfOk r (λ e. (k : ℕ) × IsErrOf read (errors.Failed k) × (e ≡ ends.Failed k) × F k))
+    → ((x : T) → read ≡ Ok x → P ends.Undone) → ((k : ℕ) → P (ends.Failed k)) → IfOk r P
+told_read (Ok x) (Ok e) X F P done failed f g = subst P (sym done.0) (f x refl)
+told_read (Ok x) (Err n) X F P done failed f g = tt
+told_read (Err x) (Ok e) X F P done failed f g = subst P (sym failed.2) (g failed.0)
+told_read (Err x) (Err n) X F P done failed f g = tt
+
+-- an open site that has the same in memory is the same site
+pub role_still : {D : Type 0} (role : Role) (name : Name) (old new : store.Site D) → memory_of new ≡ memory_of old → open_as role name new ≡ open_as role name old
+role_still role name old new e = ap (λ (m : Memory). record { name = name; state = state_as role m }) e

@@ -7,6 +7,7 @@ use Rattle.std.proofs.KnownBytes.{Appends-nil}
 use Rattle.std.proofs.lemmas.List.{map-append, append-nil}
 use Rattle.global_defs.specs.Beside.{Along}
 use Rattle.disk_defs.specs.Disk.{Files, View}
+use Rattle.wire_defs.specs.Links.{Linking}
 use Rattle.command_defs.specs.Commands.{Command, IsFormed}
 use Rattle.command_defs.specs.Script.{Position, Outside, Ends, line_reading}
 use Rattle.repl_script.specs.Feeds.{Moves, Progress, TellsBad}
@@ -22,7 +23,7 @@ use Rattle.world_laws.proofs.Lists.{all-push}
 use Rattle.site_runner.specs.declared.slot.Slot.{Slot}
 use Rattle.site_runner.specs.declared.status.Status.{Status}
 use Rattle.site_runner.specs.declared.status.Status.TheVariants.{Ok, BadWords, BadLine, ScriptTooLong, SourceFault, SinkFault, NoMemory}
-use Rattle.site_runner.specs.Tied.{IsPlace, Tied, Matched}
+use Rattle.site_runner.specs.Tied.{IsPlace, ArePlaces, Tied, Matched}
 use Rattle.site_runner.specs.Ends.{Went, Writes, ComeTo}
 use Rattle.site_runner.specs.Going.{Going, CarriesOut, Breaks, StopsAt, Halts, GoesOn, status_value}
 use Rattle.site_runner.proofs.Told.{appends_then}
@@ -35,7 +36,7 @@ matched_along view [] (p ∷ ps) h = h
 matched_along view (x ∷ xs) [] h = h
 matched_along view (x ∷ xs) (p ∷ ps) h = (h.0.disk, matched_along view xs ps h.1)
 
-pub matched : {D : Type 0} (view : D → View) (slots : List (Slot D)) (w : World) → Tied view slots w → Matched view slots w
+pub matched : {D : Type 0} (view : D → View) (slots : List (Slot D)) (w : World) → ArePlaces view slots w → Matched view slots w
 matched view slots w h = matched_along view slots w.places h
 
 -- What the known files of tied places read as is shown.
@@ -46,12 +47,12 @@ shown_along view [] (p ∷ ps) h = absurd h
 shown_along view (x ∷ xs) [] h = tt
 shown_along view (x ∷ xs) (p ∷ ps) h = (λ sure. subst (λ (o : Option Files). IsSomeAnd o (λ files. Reads files p.now p.left)) (sym (h.0.disk.known sure)) (h.0.disk.told sure), shown_along view xs ps h.1)
 
-shown_tied : {D : Type 0} (view : D → View) (slots : List (Slot D)) (w : World) → Tied view slots w → AreShown w
+shown_tied : {D : Type 0} (view : D → View) (slots : List (Slot D)) (w : World) → ArePlaces view slots w → AreShown w
 shown_tied view slots w h = shown_along view slots w.places h
 
 -- before the first line
-pub begins : {D : Type 0} (view : D → View) (w : World) (slots : List (Slot D)) (p : Position) (out : Option (List ℕ)) → p ≡ Outside → Tied view slots w → Going view w slots [] p out out
-begins view w slots p out e h = record { told = []; mid = w; output = []; runs = (refl, refl); spelled = nothing p e; formed = tt; tied = h; written = Appends-nil out }
+pub begins : {D : Type 0} (view : D → View) (links : Linking) (w : World) (slots : List (Slot D)) (p : Position) (out : Option (List ℕ)) → p ≡ Outside → Tied view links slots w → Going view links w slots [] p out out
+begins view links w slots p out e h = record { told = []; mid = w; output = []; runs = (refl, refl); spelled = nothing p e; formed = tt; tied = h; written = Appends-nil out }
   where
     nothing : (p : Position) → p ≡ Outside → ComeTo [] [] p
     nothing p e = subst (λ (x : Position). ComeTo [] [] x) (sym e) refl
@@ -81,8 +82,8 @@ formed_more : (told : List Told) (c : Command) (a : List Answer) → AllByRecurs
 formed_more told c a h f = subst (AllByRecursion IsFormed) (commands_more told c a) (all-push IsFormed (commands told) c h f)
 
 -- a line that ends no command
-pub held : {D : Type 0} (view : D → View) (p q : Position) (slots : List (Slot D)) (line : List ℕ) (out : Option (List ℕ)) → Moves p q (line_reading p line) → GoesOn view p q slots slots line out out
-held view p q slots line out m = (
+pub held : {D : Type 0} (view : D → View) (links : Linking) (p q : Position) (slots : List (Slot D)) (line : List ℕ) (out : Option (List ℕ)) → Moves p q (line_reading p line) → GoesOn view links links p q slots slots line out out
+held view links p q slots line out m = (
   leads_on p q line m,
   λ start taken old g. record {
     told = g.told;
@@ -97,14 +98,14 @@ held view p q slots line out m = (
 )
 
 -- a line that ends a command, which was carried out
-pub carried : {D : Type 0} (view : D → View) (p q : Position) (old new : List (Slot D)) (line : List ℕ) (c : Command) (mid now : Option (List ℕ)) → line_reading p line ≡ Ends c → IsFormed c → q ≡ Outside → CarriesOut view c old new mid now → GoesOn view p q old new line mid now
-carried view p q old new line c mid now e f o d = (
+pub carried : {D : Type 0} (view : D → View) (links links_now : Linking) (p q : Position) (old new : List (Slot D)) (line : List ℕ) (c : Command) (mid now : Option (List ℕ)) → line_reading p line ≡ Ends c → IsFormed c → q ≡ Outside → CarriesOut view c links links_now old new mid now → GoesOn view links links_now p q old new line mid now
+carried view links links_now p q old new line c mid now e f o d = (
   leads_to_end p q line c e o,
   λ start taken out g. let x = d g.mid g.tied in record {
     told = g.told ++ record { command = c; answers = x.0 } ∷ [];
     mid = x.1;
     output = g.output ++ x.2;
-    runs = runs_more start g.told g.mid x.1 g.output c x.0 x.2 g.runs x.3 (shown_tied view new x.1 x.4);
+    runs = runs_more start g.told g.mid x.1 g.output c x.0 x.2 g.runs x.3 (shown_tied view new x.1 x.4.places);
     spelled = told_more taken line g.told p q c x.0 e o g.spelled;
     formed = formed_more g.told c x.0 g.formed f;
     tied = x.4;
@@ -113,9 +114,9 @@ carried view p q old new line c mid now e f o d = (
 )
 
 -- all that was to be written was
-pub stops : {D : Type 0} (view : D → View) (status : Status) (p : Position) (start : World) (slots : List (Slot D)) (taken : List (List ℕ)) (old now new : Option (List ℕ)) → ((mid : World) (told : List Told) (output : List ℕ) → Appends old now output → Writes status taken start mid told output old new)
-    → (status ≡ Ok → p ≡ Outside) → (g : Going view start slots taken p old now) → Went status taken start g.mid old new
-stops view status p start slots taken old now new f o g = record {
+pub stops : {D : Type 0} (view : D → View) (links : Linking) (status : Status) (p : Position) (start : World) (slots : List (Slot D)) (taken : List (List ℕ)) (old now new : Option (List ℕ)) → ((mid : World) (told : List Told) (output : List ℕ) → Appends old now output → Writes status taken start mid told output old new)
+    → (status ≡ Ok → p ≡ Outside) → (g : Going view links start slots taken p old now) → Went status taken start g.mid old new
+stops view links status p start slots taken old now new f o g = record {
   told = g.told;
   output = g.output;
   position = p;
@@ -126,30 +127,31 @@ stops view status p start slots taken old now new f o g = record {
   all = o;
 }
 
-pub stops_there : {D : Type 0} (view : D → View) (status : Status) (p : Position) (start : World) (slots : List (Slot D)) (taken : List (List ℕ)) (old now new : Option (List ℕ)) → (f : (mid : World) (told : List Told) (output : List ℕ) → Appends old now output → Writes status taken start mid told output old new)
-    → (o : status ≡ Ok → p ≡ Outside) → (g : Going view start slots taken p old now) → (stops view status p start slots taken old now new f o g).position ≡ p
+pub stops_there : {D : Type 0} (view : D → View) (links : Linking) (status : Status) (p : Position) (start : World) (slots : List (Slot D)) (taken : List (List ℕ)) (old now new : Option (List ℕ)) → (f : (mid : World) (told : List Told) (output : List ℕ) → Appends old now output → Writes status taken start mid told output old new)
+    → (o : status ≡ Ok → p ≡ Outside) → (g : Going view links start slots taken p old now) → (stops view links status p start slots taken old now new f o g).position ≡ p
 unfolding stops
-stops_there view status p start slots taken old now new f o g = refl
+stops_there view links status p start slots taken old now new f o g = refl
 
 -- a command that was broken off ends the run at its last line
-pub broken : {D : Type 0} (view : D → View) (status : Status) (number : ℕ) (p : Position) (old new : List (Slot D)) (line : List ℕ) (c : Command) (before now : Option (List ℕ)) (rose : Type 0)
-    → line_reading p line ≡ Ends c → IsFormed c → Breaks status view c old new before now rose → Halts status view number p old new line before now rose
-broken view Ok number p old new line c before now rose e f b = absurd b
-broken view BadWords number p old new line c before now rose e f b = absurd b
-broken view (BadLine n column) number p old new line c before now rose e f b = absurd b
-broken view ScriptTooLong number p old new line c before now rose e f b = absurd b
-broken view SourceFault number p old new line c before now rose e f b = absurd b
-broken view SinkFault number p old new line c before now rose e f b = (
+pub broken : {D : Type 0} (view : D → View) (links links_now : Linking) (status : Status) (number : ℕ) (p : Position) (old new : List (Slot D)) (line : List ℕ) (c : Command) (before now : Option (List ℕ)) (rose : Type 0)
+    → line_reading p line ≡ Ends c → IsFormed c → Breaks status view c links links_now old new before now rose → Halts status view links links_now number p old new line before now rose
+broken view links links_now Ok number p old new line c before now rose e f b = absurd b
+broken view links links_now BadWords number p old new line c before now rose e f b = absurd b
+broken view links links_now (BadLine n column) number p old new line c before now rose e f b = absurd b
+broken view links links_now ScriptTooLong number p old new line c before now rose e f b = absurd b
+broken view links links_now SourceFault number p old new line c before now rose e f b = absurd b
+broken view links links_now SinkFault number p old new line c before now rose e f b = (
   b.0,
   λ start taken out g.
       let x = b.1 g.mid g.tied in (
         x.1,
-        matched view new x.1 x.4,
+        matched view new x.1 x.4.places,
+        x.4.links_are,
         record {
           told = g.told ++ record { command = c; answers = x.0 } ∷ [];
           output = g.output ++ x.2;
           position = Outside;
-          runs = runs_more start g.told g.mid x.1 g.output c x.0 x.2 g.runs x.3 (shown_tied view new x.1 x.4);
+          runs = runs_more start g.told g.mid x.1 g.output c x.0 x.2 g.runs x.3 (shown_tied view new x.1 x.4.places);
           spelled = told_more taken line g.told p Outside c x.0 e refl g.spelled;
           formed = formed_more g.told c x.0 g.formed f;
           writes = record {
@@ -175,7 +177,7 @@ broken view SinkFault number p old new line c before now rose e f b = (
         },
       ),
 )
-broken view NoMemory number p old new line c before now rose e f b = (
+broken view links links_now NoMemory number p old new line c before now rose e f b = (
   b.0,
   λ mid t.
       let x = b.1 mid t in
@@ -183,12 +185,12 @@ broken view NoMemory number p old new line c before now rose e f b = (
 )
 
 -- no memory for the line itself
-pub not_taken : {D : Type 0} (view : D → View) (slots : List (Slot D)) (p : Position) (line : List ℕ) (mid : World) → Tied view slots mid → StopsAt view slots p line mid
-not_taken view slots p line mid t = (mid, matched view slots mid t, inl refl)
+pub not_taken : {D : Type 0} (view : D → View) (links : Linking) (slots : List (Slot D)) (p : Position) (line : List ℕ) (mid : World) → Tied view links slots mid → StopsAt view slots p line mid
+not_taken view links slots p line mid t = (mid, matched view slots mid t.places, inl refl)
 
 -- a line that wasn't fed
-pub not_fed : {D : Type 0} (view : D → View) (slots : List (Slot D)) (e : ScriptError) (p : Progress) (line : List ℕ) (out : Option (List ℕ)) (rose : Type 0) → TellsBad e p line → (e ≡ errors.ScriptTooLong → ⊥)
-    → Halts (status_value e) view (p.lines + 1) p.position slots slots line out out rose
-not_fed view slots (errors.BadLine n at) p line out rose h few = (h.0, refl, refl, h.1)
-not_fed view slots errors.ScriptTooLong p line out rose h few = few refl
-not_fed view slots errors.NoMemory p line out rose h few = (refl, λ mid t. not_taken view slots p.position line mid t)
+pub not_fed : {D : Type 0} (view : D → View) (links : Linking) (slots : List (Slot D)) (e : ScriptError) (p : Progress) (line : List ℕ) (out : Option (List ℕ)) (rose : Type 0) → TellsBad e p line → (e ≡ errors.ScriptTooLong → ⊥)
+    → Halts (status_value e) view links links (p.lines + 1) p.position slots slots line out out rose
+not_fed view links slots (errors.BadLine n at) p line out rose h few = (h.0, refl, refl, refl, h.1)
+not_fed view links slots errors.ScriptTooLong p line out rose h few = few refl
+not_fed view links slots errors.NoMemory p line out rose h few = (refl, λ mid t. not_taken view links slots p.position line mid t)

@@ -20,7 +20,7 @@ use Rattle.world_defs.specs.World.{Place, AmongCovered, AmongCoveredSo, has_fail
 use Rattle.world_defs.specs.Changes.{in_new_state, After, Becomes, Fails}
 use Rattle.world_defs.specs.Row.{in_state, why_not_down}
 use Rattle.world_defs.specs.Shown.{BySequence}
-use Rattle.world_defs.specs.Step.{LeftBy}
+use Rattle.world_defs.specs.Changes.{LeftBy}
 use Rattle.world_defs.specs.Without.{NoneIsWithout, IsWithoutNeed}
 use Rattle.world_defs.specs.Ties.{StandsBy, Matches}
 use Rattle.world_defs.specs.rows.Start.{read_so}

@@ -11,7 +11,6 @@ use Rattle.journal_defs.specs.Instance.{generation, regions}
 use Rattle.site_store.specs.Needing.{NoneNeeds}
 use Rattle.site_store.specs.Site.{IsOpen, count_of}
 use Rattle.site_store.proofs.Standing.{reads_of}
-use Rattle.repl_section.specs.Reigns.{stamp_in}
 use Rattle.command_defs.specs.Commands.{Name}
 use Rattle.site_defs.specs.Lists.{Among}
 use Rattle.site_defs.specs.Contents.{Taken, Contents, Standing, NO_LEFTOVER, bare}
@@ -25,21 +24,22 @@ use Rattle.site_runner.specs.declared.ending.Ended.TheVariants as ends
 use Rattle.site_defs.specs.Behind.{IsSiteWith}
 use Rattle.world_defs.specs.World as world
 use Rattle.world_defs.specs.World.{Place, StandAfter}
-use Rattle.world_defs.specs.Answers.{Refusal, Answer, Done, Refused, DiskFault, NotAFile, Ran, Typed, line}
+use Rattle.world_defs.specs.Answers.{Refusal, Answer, Done, Refused, DiskFault, NotAFile, BadFrame, Ran, Typed, line}
 use Rattle.world_defs.specs.Row.{or_else, Here}
 use Rattle.world_defs.specs.Changes.{in_new_state, After}
 use Rattle.world_defs.specs.Shown.{BySequence}
 use Rattle.world_defs.specs.Without.{NoneIsWithout}
 use Rattle.world_defs.specs.Step.{is_done}
 use Rattle.world_defs.specs.rows.Stop.{stop}
-use Rattle.site_runner.specs.Sites.{state_value, IsOf, Down, Primary, Failed, Site, Reign, stamp_of}
+use Rattle.site_runner.specs.Sites.{state_value, IsOf, State, Down, Failed, Site}
+use Rattle.site_runner.proofs.Opened.{open_in, open_held}
 use Rattle.site_runner.specs.Executes.{Comes}
 use Rattle.site_runner.specs.Steps.{in_state, IsAt, ExecutesAt, IsCutAt}
 use Rattle.site_runner.specs.Marking.{marking}
 use Rattle.site_runner.proofs.Amongs.{among_map, map_among, among_flat}
 use Rattle.site_runner.proofs.Ats.{comes_done, comes_fault, at_moment, some_outcome, told_is, reads_image, Leftovers, NothingIsLeft, ReadPlace, place_of_images, place_of_one, only, open_site, open_reads, open_images, stands_with}
 use Rattle.site_runner.proofs.Remembered.{entries_count}
-use Rattle.site_runner.proofs.Stopped.{open_at, reigns_at, open_at_place}
+use Rattle.site_runner.proofs.Stopped.{open_at, opens_at, open_at_place}
 use Rattle.site_runner.proofs.Extracted.{known_open}
 
 -- The regions in which an epoch was taken: each choice of them among the first n.
@@ -111,7 +111,7 @@ left_are c o h =
       | inr m ↦ inr (m.0, x.2 ∙ ap bare m.1)
     ]
 
-marked_in : (c : Contents) (o : Standing) → MayMarkLeft (bare c) o → MayMark c o.contents
+pub marked_in : (c : Contents) (o : Standing) → MayMarkLeft (bare c) o → MayMark c o.contents
 marked_in c o (inl e) = inl (ap (λ (x : Standing). x.contents) e)
 marked_in c o (inr m) = inr (m.0, ap (λ (x : Standing). x.contents) m.1)
 
@@ -128,7 +128,7 @@ pub record Moments (v w : View) (o : Memory) : Type 1 where
   pub later : v.faults ≤ w.faults
 
 -- each image stands for what taking an epoch may leave
-marked_place : (leftovers : Leftovers) (v w : View) (s : Site) (r : Reign) (p : Place) (site : Option world.Site) → s.state ≡ Primary r → Moments v w r.site → IsAt v s p
+marked_place : (leftovers : Leftovers) (v w : View) (s : Site) (r : Memory) (p : Place) (site : Option world.Site) → open_in s.state ≡ Some r → Moments v w r → IsAt v s p
     → ReadPlace w p site (marks p.now) (Some (map bare (marks p.now)))
 marked_place leftovers v w s r p site e m h =
     place_of_images leftovers w p site (marks p.now) (Some (map bare (marks p.now))) m.lawful (m.simulated ∙ h.disk.simulated)
@@ -137,19 +137,19 @@ marked_place leftovers v w s r p site e m h =
     (λ sure f i. let x = at_moment v w _ f m.lawful (m.left p.now (known_open v s r p e h sure)) i in (x.0, among_left p.now x.0 x.1, stands_with f x.0 x.2))
 
 -- an outcome there was, after a step
-was_outcome : (v : View) (s : Site) (r : Reign) (p : Place) (o : Contents) → IsLawful v → s.state ≡ Primary r → IsAt v s p → p.told ≡ true → Among (marks p.now) o → After MayMark p.outcomes o
+was_outcome : (v : View) (s : Site) (r : Memory) (p : Place) (o : Contents) → IsLawful v → open_in s.state ≡ Some r → IsAt v s p → p.told ≡ true → Among (marks p.now) o → After MayMark p.outcomes o
 was_outcome v s r p o law e h sure a =
     let x = some_outcome v p law h.disk sure in
     (x.0, x.1, subst (λ (y : Contents). MayMark y o) (sym ((open_at v s r p e h).settled sure x.0 x.1)) (marks_are p.now o a))
 
 -- and a standing
-was_standing : (v : View) (s : Site) (r : Reign) (p : Place) (step : Standing → Standing → Type 0) → ((o : Standing) → MayMarkLeft (bare p.now) o → step (bare p.now) o) → s.state ≡ Primary r → IsAt v s p → p.told ≡ true
+was_standing : (v : View) (s : Site) (r : Memory) (p : Place) (step : Standing → Standing → Type 0) → ((o : Standing) → MayMarkLeft (bare p.now) o → step (bare p.now) o) → open_in s.state ≡ Some r → IsAt v s p → p.told ≡ true
     → StandAfter step p.standings (Some (map bare (marks p.now)))
 was_standing v s r p step so e h sure =
     subst (λ (x : Option (List Standing)). StandAfter step x (Some (map bare (marks p.now)))) (sym ((open_at v s r p e h).standings sure))
     (λ o a. (bare p.now, inl refl, so o (left_are p.now o a)))
 
-pub mark_cut : (leftovers : Leftovers) (word : List ℕ) (v w : View) (s : Site) (r : Reign) → IsLawful v → s.state ≡ Primary r → Moments v w r.site → IsCutAt (marking word s.name) v s w
+pub mark_cut : (leftovers : Leftovers) (word : List ℕ) (v w : View) (s : Site) (r : Memory) → IsLawful v → open_in s.state ≡ Some r → Moments v w r → IsCutAt (marking word s.name) v s w
 mark_cut leftovers word v w s r was e m p h =
     let here = marked_place leftovers v w s r p p.site e m h in (
       record { site = p.site; told = p.told; now = here.now; left = here.left; outcomes = marks p.now; standings = Some (map bare (marks p.now)); shown = w.content; faults = w.faults; simulated = p.simulated },
@@ -163,7 +163,7 @@ mark_cut leftovers word v w s r was e m p h =
       here.matches,
     )
 
-pub mark_faulted : (leftovers : Leftovers) (word : List ℕ) (v w : View) (s : Site) (r : Reign) (k : ℕ) (before now : List ℕ) → IsLawful v → s.state ≡ Primary r → Moments v w r.site → k ≡ w.faults → Rose v.faults w.faults
+pub mark_faulted : (leftovers : Leftovers) (word : List ℕ) (v w : View) (s : Site) (r : Memory) (k : ℕ) (before now : List ℕ) → IsLawful v → open_in s.state ≡ Some r → Moments v w r → k ≡ w.faults → Rose v.faults w.faults
     → now ≡ before ++ line s.name (codes "DISKFAULT " ++ decimal k) → ExecutesAt (marking word s.name) v s w (in_state s (Failed k)) before now false
 mark_faulted leftovers word v w s r k before now was e m count rose t p h =
     let state = in_new_state (world.Failed k) p.site in
@@ -193,39 +193,39 @@ mark_faulted leftovers word v w s r k before now was e m count rose t p h =
     })
     t
 
-pub marks_at : (word : List ℕ) (v w : View) (s : Site) (r new : Reign) (nothing : NothingIsLeft w new.site) (count : ℕ) (before now : List ℕ) → IsLawful w → s.state ≡ Primary r → new.site.stamp ≡ r.site.stamp → new.serials ≡ r.serials → w.simulated ≡ v.simulated → v.faults ≤ w.faults
-    → ((told : Bool) (c : Contents) → IsOpen v told c (length c.sequence) r.site → IsOpen w told (marked c) (length c.sequence) new.site)
-    → ((c : Contents) → IsOpen v true c (length c.sequence) r.site → (f : Files) → Image w f → NoneNeeds (length c.sequence) f) → count ≡ count_of r.site → now ≡ before ++ line s.name (word ++ decimal count)
-    → ExecutesAt (marking word s.name) v s w (in_state s (Primary new)) before now true
-marks_at word v w s r new nothing count before now law e stamped serials same later f none counts t p h =
-    let was = reigns_at v s r p e h in
+pub marks_at : (word : List ℕ) (v w : View) (s : Site) (x : State) (r new : Memory) (nothing : NothingIsLeft w new) (count : ℕ) (before now : List ℕ) → IsLawful w → open_in s.state ≡ Some r → open_in x ≡ Some new → state_value x ≡ state_value s.state → w.simulated ≡ v.simulated → v.faults ≤ w.faults
+    → ((told : Bool) (c : Contents) → IsOpen v told c (length c.sequence) r → IsOpen w told (marked c) (length c.sequence) new)
+    → ((c : Contents) → IsOpen v true c (length c.sequence) r → (f : Files) → Image w f → NoneNeeds (length c.sequence) f) → count ≡ count_of r → now ≡ before ++ line s.name (word ++ decimal count)
+    → ExecutesAt (marking word s.name) v s w (in_state s x) before now true
+marks_at word v w s x r new nothing count before now law e opens role same later f none counts t p h =
+    let was = opens_at v s r p e h in
     let c : Contents = marked p.now in
-    let is_open : IsOpen w p.told c (length c.sequence) new.site = f p.told p.now was in
+    let is_open : IsOpen w p.told c (length c.sequence) new = f p.told p.now was in
     let of : p.told ≡ true → IsOf s.name c = λ sure. record { made = (h.held.made sure).now.made; name = (h.held.made sure).now.name } in
-    comes_done
-    (record { site = p.site; told = p.told; now = c; left = NO_LEFTOVER; outcomes = c ∷ []; standings = Some (bare c ∷ []); shown = w.content; faults = w.faults; simulated = p.simulated })
+    let here : Place = record { site = p.site; told = p.told; now = c; left = NO_LEFTOVER; outcomes = c ∷ []; standings = Some (bare c ∷ []); shown = w.content; faults = w.faults; simulated = p.simulated } in
+    comes_done here
     (ap (λ (x : Option Refusal). or_else x None) (open_at_place v s r p e h)) (
       record { site = refl; known = record { told = refl; now = refl; left = refl; outcomes = refl; standings = refl }; faults = omega (arith, later, h.disk.faults); simulated = refl },
       λ sure. reads_of w (BySequence (λ u seq. NoneIsWithout u (length seq))) law (λ f i.
-          let site : IsSite f c = open_site w c new.site (subst (λ (b : Bool). IsOpen w b c (length c.sequence) new.site) sure is_open) f i in
-          (site.records, c.sequence, site.image.held, site.image.sequence, none p.now (subst (λ (b : Bool). IsOpen v b p.now (length p.now.sequence) r.site) sure was) f i site.records site.image.held)),
+          let site : IsSite f c = open_site w c new (subst (λ (b : Bool). IsOpen w b c (length c.sequence) new) sure is_open) f i in
+          (site.records, c.sequence, site.image.held, site.image.sequence, none p.now (subst (λ (b : Bool). IsOpen v b p.now (length p.now.sequence) r) sure was) f i site.records site.image.held)),
     )
     tt
     (record {
-      disk = place_of_one w p p.site c (same ∙ h.disk.simulated) (λ sure. open_reads w new.site nothing p.told c law sure is_open) (λ sure. open_images w new.site nothing p.told c sure is_open);
-      site = h.site ∙ ap (λ (x : world.State). Some (record { name = s.name; state = x })) (ap state_value e ∙ ap (λ (x : Option _). world.Primary (stamp_in x) r.serials) (sym stamped) ∙ ap (λ (x : List ℕ). world.Primary (stamp_of new) x) (sym serials));
+      disk = place_of_one w p p.site c (same ∙ h.disk.simulated) (λ sure. open_reads w new nothing p.told c law sure is_open) (λ sure. open_images w new nothing p.told c sure is_open);
+      site = h.site ∙ ap (λ (y : world.State). Some (record { name = s.name; state = y })) (sym role);
       held = record {
-        made = λ sure. record { now = of sure; outcomes = λ x j. subst (IsOf s.name) (sym (only x c j)) (of sure) };
-        state = record { reigns = is_open; settled = λ sure x j. only x c j; left = λ sure. refl; standings = λ sure. refl };
+        made = λ sure. record { now = of sure; outcomes = λ o j. subst (IsOf s.name) (sym (only o c j)) (of sure) };
+        state = open_held w x new here opens (record { opens = is_open; settled = λ sure o j. only o c j; left = λ sure. refl; standings = λ sure. refl });
       };
     })
-    (t ∙ ap (λ (n : ℕ). before ++ line s.name (word ++ decimal n)) (counts ∙ entries_count p.now (length p.now.sequence) r.site was.remembered))
+    (t ∙ ap (λ (n : ℕ). before ++ line s.name (word ++ decimal n)) (counts ∙ entries_count p.now (length p.now.sequence) r was.remembered))
 
 -- A site that was closed.
 
-pub stops_at : (v w : View) (s : Site) (r : Reign) (count : ℕ) (before now : List ℕ) → IsLawful w → s.state ≡ Primary r → (IsSome v.content → IsSome w.content) → w.simulated ≡ v.simulated → v.faults ≤ w.faults
-    → ((c : Contents) → IsOpen v true c (length c.sequence) r.site → (f : Files) → Image w f → IsSiteWith f (bare (marked c)))
-    → ((c : Contents) → IsOpen v true c (length c.sequence) r.site → (f : Files) → Image w f → NoneNeeds (length c.sequence) f) → count ≡ count_of r.site → now ≡ before ++ line s.name (codes "DOWN " ++ decimal count)
+pub stops_at : (v w : View) (s : Site) (r : Memory) (count : ℕ) (before now : List ℕ) → IsLawful w → open_in s.state ≡ Some r → (IsSome v.content → IsSome w.content) → w.simulated ≡ v.simulated → v.faults ≤ w.faults
+    → ((c : Contents) → IsOpen v true c (length c.sequence) r → (f : Files) → Image w f → IsSiteWith f (bare (marked c)))
+    → ((c : Contents) → IsOpen v true c (length c.sequence) r → (f : Files) → Image w f → NoneNeeds (length c.sequence) f) → count ≡ count_of r → now ≡ before ++ line s.name (codes "DOWN " ++ decimal count)
     → ExecutesAt (stop s.name) v s w (in_state s Down) before now true
 stops_at v w s r count before now law e told same later stands none counts t p h =
     let c : Contents = marked p.now in
@@ -248,7 +248,7 @@ stops_at v w s r count before now law e told same later stands none counts t p h
       site = ap (in_new_state world.Down) h.site;
       held = record { made = λ sure. record { now = of sure; outcomes = λ x j. subst (IsOf s.name) (sym (only x c j)) (of sure) }; state = tt };
     })
-    (t ∙ ap (λ (n : ℕ). before ++ line s.name (codes "DOWN " ++ decimal n)) (counts ∙ entries_count p.now (length p.now.sequence) r.site (reigns_at v s r p e h).remembered))
+    (t ∙ ap (λ (n : ℕ). before ++ line s.name (codes "DOWN " ++ decimal n)) (counts ∙ entries_count p.now (length p.now.sequence) r (opens_at v s r p e h).remembered))
   where
     reads_there : (w : View) (c : Contents) → IsLawful w → IsSome w.content → ((f : Files) → Image w f → IsSiteWith f (bare c)) → IsSomeAnd w.content (λ files. Reads files c NO_LEFTOVER)
     reads_there w c law told stands =
@@ -262,6 +262,7 @@ stops_by name w new p q before now text Done e h at t = cc
 stops_by name w new p q before now text (Refused r) e h at t = record { answer = Refused r; becomes = q; text = text; here = h; there = at; written = t; done = refl }
 stops_by name w new p q before now text (DiskFault k) e h at t = record { answer = DiskFault k; becomes = q; text = text; here = h; there = at; written = t; done = refl }
 stops_by name w new p q before now text (NotAFile file offset) e h at t = record { answer = NotAFile file offset; becomes = q; text = text; here = h; there = at; written = t; done = refl }
+stops_by name w new p q before now text (BadFrame offset) e h at t = record { answer = BadFrame offset; becomes = q; text = text; here = h; there = at; written = t; done = refl }
 stops_by name w new p q before now text (Ran s) e h at t = record { answer = Ran s; becomes = q; text = text; here = h; there = at; written = t; done = refl }
 stops_by name w new p q before now text (Typed bytes) e h at t = record { answer = Typed bytes; becomes = q; text = text; here = h; there = at; written = t; done = refl }
 

@@ -20,7 +20,8 @@ use Rattle.site_defs.specs.Lists.{Among}
 use Rattle.world_defs.specs.World as world
 use Rattle.world_defs.specs.World.{Place, StandAfter}
 use Rattle.site_defs.specs.Contents.{Contents, Leftover, Standing, NO_LEFTOVER, bare}
-use Rattle.world_defs.specs.Answers.{Section, line}
+use Rattle.world_defs.specs.Sections.{Section}
+use Rattle.world_defs.specs.Answers.{line}
 use Rattle.world_defs.specs.Row.{in_state, why_not_primary, refusal_in}
 use Rattle.world_defs.specs.Changes.{in_new_state}
 use Rattle.site_defs.specs.Fronts.{with_sequence, IsFrontOf, turn_of}
@@ -36,7 +37,8 @@ use Rattle.site_runner.proofs.Ats.{comes_ran, not_early, some_outcome, state_at,
 use Rattle.site_runner.proofs.Ats.{ImagesStand, stands_with}
 use Rattle.site_runner.proofs.Kept.{stands_within, may_stand_among, may_stand_is}
 use Rattle.site_runner.proofs.Remembered.{entries_count}
-use Rattle.site_runner.proofs.Stopped.{open_at, reigns_at}
+use Rattle.site_runner.proofs.Stopped.{open_at, opens_at}
+use Rattle.site_runner.proofs.Opened.{open_in}
 use Rattle.site_runner.proofs.Amongs.{among_first, among_second, among_either}
 use Rattle.site_runner.proofs.Begun.{nat_cases}
 use Rattle.site_store.specs.Site.{count_of}
@@ -152,7 +154,7 @@ pub ran : (v w : View) (s : Site) (r new : Reign) (nothing : NothingIsLeft w new
     → ((told : Bool) (c : Contents) → Reigns v told c r → HasDecided w told c jobs order r new (GaveLines before middle))
     → now ≡ middle ++ line s.name (codes "AT " ++ decimal (count_of new.site)) → ExecutesAt (run jobs order s.name) v s w (record { name = s.name; state = Primary new }) before now false
 ran v w s r new nothing jobs order before middle now law whole st stamped same later f t p h =
-    let d : HasDecided w p.told p.now jobs order r new (GaveLines before middle) = f p.told p.now (reigns_at v s r p st h) in
+    let d : HasDecided w p.told p.now jobs order r new (GaveLines before middle) = f p.told p.now (opens_at v s r.site p (ap open_in st) h) in
     let stamp = stamp_of r in
     let turn : Turn = turn_of stamp r.serials jobs order p.now.sequence in
     let state : world.State = world.Primary stamp turn.serials in
@@ -182,7 +184,7 @@ ran v w s r new nothing jobs order before middle now law whole st stamped same l
           ∙ ap (λ (x : Stamp). Some (record { name = s.name; state = world.Primary x new.serials })) stamp_new;
       held = record {
         made = λ sure. let k = of_sequence s.name p.now turn.sequence (h.held.made sure).now in record { now = k; outcomes = λ x j. subst (IsOf s.name) (sym (only x o j)) k };
-        state = record { reigns = d.reigns; settled = λ sure x j. only x o j; left = λ sure. refl; standings = λ sure. refl };
+        state = record { opens = d.reigns; settled = λ sure x j. only x o j; left = λ sure. refl; standings = λ sure. refl };
       };
     })
     (t ∙ ap (λ (x : List ℕ). x ++ line s.name (codes "AT " ++ decimal (count_of new.site))) d.given
@@ -195,7 +197,7 @@ pub ran_to_fault : (leftovers : Leftovers) (v w : View) (s : Site) (r : Reign) (
     → ((told : Bool) (c : Contents) → Reigns v told c r → FailsIn w (stamp_of r) told c jobs order r.serials undecided (GaveLines before middle))
     → now ≡ middle ++ undecided_line s.name k undecided → ExecutesAt (run jobs order s.name) v s w (record { name = s.name; state = Failed k }) before now false
 ran_to_fault leftovers v w s r jobs order k undecided before middle now was law st same count rose f t p h =
-    let a : FailsIn w (stamp_of r) p.told p.now jobs order r.serials undecided (GaveLines before middle) = f p.told p.now (reigns_at v s r p st h) in
+    let a : FailsIn w (stamp_of r) p.told p.now jobs order r.serials undecided (GaveLines before middle) = f p.told p.now (opens_at v s r.site p (ap open_in st) h) in
     let stamp = stamp_of r in
     let picks : List ℕ = take a.decided order in
     let many : length picks ≡ a.decided = length-take-le a.decided order (omega (arith, a.inside)) in
@@ -399,7 +401,7 @@ stands_cut : (v w : View) (s : Site) (r : Reign) (jobs : List (List Job)) (order
     → StandAfter (λ x o. (o ≡ x) ⊎ RunMayStandOn p.site jobs order p o) p.standings (Some (all_stand (runs_of (stamp_of r) r.serials jobs order p.now.sequence) (length order) p.now))
 stands_cut v w s r jobs order p st h sure =
     let runs : ℕ → Sequence = runs_of (stamp_of r) r.serials jobs order p.now.sequence in
-    let is_open : IsOpen v r p = open_at v s r p st h in
+    let is_open : IsOpen v r.site p = open_at v s r.site p (ap open_in st) h in
     subst (λ (x : Option (List Standing)). StandAfter (λ y o. (o ≡ y) ⊎ RunMayStandOn p.site jobs order p o) x (Some (all_stand runs (length order) p.now))) (sym (is_open.standings sure))
     (λ o a. let k = are_all_stand runs (length order) p.now o a in (bare p.now, inl refl, inr (subst (λ (y : Option world.Site). RunMayStandOn y jobs order p o) (sym (site_is v s r p st h)) (k.0, k.1))))
 
@@ -411,7 +413,7 @@ pub run_cut : (leftovers : Leftovers) (v w : View) (s : Site) (r : Reign) (jobs 
     → ((told : Bool) (c : Contents) → Reigns v told c r → (m low : ℕ) × (length c.sequence ≤ low) × MayHaveFront w told c (turn_of (stamp_of r) r.serials jobs (take m order) c.sequence).sequence low)
     → ((told : Bool) (c : Contents) → Reigns v told c r → told ≡ true → LeftBehind w (stamp_of r) c jobs order r.serials) → IsCutAt (run jobs order s.name) v s w
 run_cut leftovers v w s r jobs order was law st same later f lefts p h =
-    let reigns = reigns_at v s r p st h in
+    let reigns = opens_at v s r.site p (ap open_in st) h in
     let d : (m low : ℕ) × (length p.now.sequence ≤ low) × MayHaveFront w p.told p.now (turn_of (stamp_of r) r.serials jobs (take m order) p.now.sequence).sequence low = f p.told p.now reigns in
     let m : ℕ = d.0 in
     let low : ℕ = d.1 in
@@ -435,7 +437,7 @@ run_cut leftovers v w s r jobs order was law st same later f lefts p h =
 pub run_cut_any : (leftovers : Leftovers) (v w : View) (s : Site) (r : Reign) (jobs : List (List Job)) (order : List ℕ) → IsLawful v → IsLawful w → s.state ≡ Primary r → w.simulated ≡ v.simulated → v.faults ≤ w.faults
     → ((told : Bool) (c : Contents) → Reigns v told c r → MayLeave w (stamp_of r) told c jobs order r.serials) → IsCutAt (run jobs order s.name) v s w
 run_cut_any leftovers v w s r jobs order was law st same later f p h =
-    let d : MayLeave w (stamp_of r) p.told p.now jobs order r.serials = f p.told p.now (reigns_at v s r p st h) in
+    let d : MayLeave w (stamp_of r) p.told p.now jobs order r.serials = f p.told p.now (opens_at v s r.site p (ap open_in st) h) in
     let low : ℕ = length p.now.sequence in
     let runs : ℕ → Sequence = runs_of (stamp_of r) r.serials jobs order p.now.sequence in
     let list = all_fronts runs (length order) p.now low in

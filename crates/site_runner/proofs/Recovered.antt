@@ -56,12 +56,12 @@ recovers_all anew broken c o (inl (inl e)) = inl e
 recovers_all anew broken c o (inl (inr k)) = inr (among_first _ (marks (opened_as anew broken c)) o (any_begun anew k.0 (cut_there broken c) o k.1))
 recovers_all anew broken c o (inr m) = inr (among_second (begun_up_to anew (length (regions (cut_there broken c).instance)) (cut_there broken c)) _ o (among_marks (opened_as anew broken c) o m))
 
-of_recovers : (anew : Bool) (broken : List ℕ) (name : Name) (c o : Contents) → MayRecoverAs anew broken c o → IsOf name c → IsOf name o
+pub of_recovers : (anew : Bool) (broken : List ℕ) (name : Name) (c o : Contents) → MayRecoverAs anew broken c o → IsOf name c → IsOf name o
 of_recovers anew broken name c o (inl (inl e)) h = subst (IsOf name) (sym e) h
 of_recovers anew broken name c o (inl (inr k)) h = subst (IsOf name) (sym k.1) (of_opened_as anew name broken k.0 c h)
 of_recovers anew broken name c o (inr m) h = of_marked name (opened_as anew broken c) o m (of_opened_as anew name broken (length (regions c.instance)) c h)
 
-ends : (anew : Bool) (broken : List ℕ) → Ends (MayRecoverAs anew broken)
+pub ends : (anew : Bool) (broken : List ℕ) → Ends (MayRecoverAs anew broken)
 ends anew broken = record { all = recovers anew broken; are = recovers_are anew broken; covers = λ c o m. (o, recovers_all anew broken c o m, inl refl); of = of_recovers anew broken }
 
 abbrev recovers_so : Bool → Standing → List Standing
@@ -86,7 +86,7 @@ so_all anew s o (inl (inr k)) =
     inr (among_first (cut_so_as anew s) _ o (subst (Among (cut_so_as anew s)) (sym k.1) (among_map bare (begun_up_to anew (length (regions d.instance)) d) _ (any_begun anew k.0 d _ refl))))
 so_all anew s o (inr m) = inr (among_second (cut_so_as anew s) _ o (among_left (opened_as anew s.broken s.contents) o m))
 
-ends_so : (anew : Bool) → EndsSo (MayRecoverAsLeft anew)
+pub ends_so : (anew : Bool) → EndsSo (MayRecoverAsLeft anew)
 ends_so anew = record { all = recovers_so anew; are = so_are anew; covers = λ s o m. (o, so_all anew s o m, record { contents = inl refl; broken = refl }) }
 
 -- it comes to no end

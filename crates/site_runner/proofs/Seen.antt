@@ -9,7 +9,7 @@ use Rattle.world_defs.specs.World.{Place, Kept, has_failed_on}
 use Rattle.world_defs.specs.Answers.{fault_line}
 use Rattle.world_defs.specs.Row.{Row}
 use Rattle.world_defs.specs.Changes.{in_new_state, FailsUnchanged}
-use Rattle.site_runner.specs.Sites.{HoldsState, State, Down, Primary, Failed, Site}
+use Rattle.site_runner.specs.Sites.{HoldsState, State, Down, Primary, Second, Failed, Site}
 use Rattle.site_runner.specs.Steps.{IsAt, ExecutesAt, IsCutAt}
 use Rattle.site_runner.proofs.Fused.{state_read}
 use Rattle.site_runner.proofs.Ats.{comes_fault, stand_same, left_old, still_by, failed_by, failed_stand, shown_same}
@@ -25,7 +25,8 @@ kept_counted p faults h = record { site = refl; now = refl; left = refl; known =
 
 state_counted : (w : View) (s : State) (p : Place) (n : ℕ) → HoldsState w s p → HoldsState w s (counted p n)
 state_counted w Down p n h = tt
-state_counted w (Primary r) p n h = record { reigns = h.reigns; settled = h.settled; left = h.left; standings = h.standings }
+state_counted w (Primary r) p n h = record { opens = h.opens; settled = h.settled; left = h.left; standings = h.standings }
+state_counted w (Second s) p n h = record { opens = h.opens; settled = h.settled; left = h.left; standings = h.standings }
 state_counted w (Failed k) p n h = tt
 
 pub read_at : (v w : View) (s : Site) (p : Place) → disk.Reads v w → IsAt v s p → IsAt w s (counted p w.faults)

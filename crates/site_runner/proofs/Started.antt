@@ -30,9 +30,10 @@ use Rattle.world_defs.specs.Shown.{BySequence, IsOfAnother}
 use Rattle.world_defs.specs.Without.{NoneIsWithout}
 use Rattle.site_defs.specs.Contents.{Contents, Leftover, Standing, NO_LEFTOVER, bare}
 use Rattle.world_defs.specs.Answers.{Cause, GenLimit, ReignLimit, line}
-use Rattle.world_defs.specs.Row.{first, refused_with, in_state, why_not_down}
+use Rattle.world_defs.specs.Row.{first, refused_with, refusal_in, in_state, why_not_down}
 use Rattle.world_defs.specs.Changes.{in_new_state, After, ChangesUnknown}
-use Rattle.world_defs.specs.rows.Start.{read_so, StartedBy, LimitedBy, IsUnopened, limited, generation_limit, forward_cause, need_forward, reign_limit, FIRST_SERIALS, cycle_on, start}
+use Rattle.world_defs.specs.World.{StandAfter}
+use Rattle.world_defs.specs.rows.Start.{read_so, StartedBy, LimitedBy, IsUnopened, limited, generation_limit, forward_cause, need_forward, reign_limit, FIRST_SERIALS, cycle_on, MayStart, MayStartLeft, start}
 use Rattle.site_defs.specs.Limits.{LAST_GENERATION, LAST_CYCLE, no_reign_left}
 use Rattle.site_defs.specs.OutsideBlocks.{IsOutsideOpening}
 use Rattle.site_defs.specs.Opening.{MayBegin, MayBeginLeft, opened, with_reign, next_stamp}
@@ -53,7 +54,7 @@ use Rattle.site_runner.specs.Steps.{IsAt, ExecutesAt, IsCutAt}
 use Rattle.site_store.specs.declared.error.SiteError.{SiteError}
 use Rattle.site_runner.specs.Starting.{IsOpenedAt, BeginsAt, FailsToOpen}
 use Rattle.site_runner.proofs.Ats.{comes_done, comes_so, comes_refused, comes_may_refuse, comes_fault, comes_damaged, refused_late, none_refused, is_true_or_false, some_both, told_is, is_site, reads_site, stands_told, at_moment, reads_image, Leftovers, NothingIsLeft, ReadPlace, place_of_images, place_of_one, only, open_reads, open_images}
-use Rattle.site_runner.proofs.Ats.{left_new, as_told, shown_same, shown_unwritten, by_shown, stand_same, StandForOne, ImagesStand, standing_there, at_image, standing_of, stands_with, stands_for, still_by, up_down, images_of, standings_of}
+use Rattle.site_runner.proofs.Ats.{left_new, stand_more, as_told, shown_same, shown_unwritten, by_shown, stand_same, StandForOne, ImagesStand, standing_there, at_image, standing_of, stands_with, stands_for, still_by, up_down, images_of, standings_of}
 use Rattle.site_runner.proofs.Seen.{counted, kept_counted}
 use Rattle.site_runner.proofs.Remembered.{entries_count}
 use Rattle.site_runner.proofs.Begun.{limit_opened, stamp_opened, of_opened, of_begun, of_may_begin, begins, among_begins, begins_among, begins_so, begins_so_among, begun_so, generation_past, generation_left}
@@ -74,7 +75,7 @@ why_at s state p e h = ap (in_state why_not_down) h ∙ ap (λ (x : State). why_
 
 -- the tests of a site that is down
 
-early_down : (s : Site) (p : Place) → s.state ≡ Down → p.site ≡ Some (site_value s) → refused_with s.name (in_state why_not_down p.site) ≡ None
+pub early_down : (s : Site) (p : Place) → s.state ≡ Down → p.site ≡ Some (site_value s) → refused_with s.name (in_state why_not_down p.site) ≡ None
 early_down s p e h = ap (refused_with s.name) (why_at s Down p e h)
 
 limited_told : (p : Place) (x y z : Option Cause) → p.told ≡ true → generation_limit p.now ≡ x → need_forward p.now ≡ y → reign_limit p.now ≡ z → limited p ≡ first (x ∷ y ∷ z ∷ [])
@@ -105,10 +106,10 @@ unknown_at w s p down site unsure shown same = record {
 }
 
 -- and once something was written there
-abbrev changed : Place → View → Place
+abbrev pub changed : Place → View → Place
 changed p w = record { site = p.site; told = p.told; now = p.now; left = p.left; outcomes = p.outcomes; standings = p.standings; shown = w.content; faults = w.faults; simulated = p.simulated }
 
-changed_at : (w : View) (s : Site) (p : Place) → s.state ≡ Down → p.site ≡ Some (site_value s) → p.told ≡ false → w.simulated ≡ p.simulated → IsAt w s (changed p w)
+pub changed_at : (w : View) (s : Site) (p : Place) → s.state ≡ Down → p.site ≡ Some (site_value s) → p.told ≡ false → w.simulated ≡ p.simulated → IsAt w s (changed p w)
 changed_at w s p down site unsure same = record {
   disk = record {
     told = λ sure. absurd (false≢true (sym unsure ∙ sure));
@@ -123,7 +124,7 @@ changed_at w s p down site unsure same = record {
   held = record { made = λ sure. absurd (false≢true (sym unsure ∙ sure)); state = subst (λ (x : State). HoldsState w x (changed p w)) (sym down) tt };
 }
 
-changes_unknown : (w : View) (p : Place) → p.told ≡ false → p.faults ≤ w.faults → ChangesUnknown p (changed p w)
+pub changes_unknown : (w : View) (p : Place) → p.told ≡ false → p.faults ≤ w.faults → ChangesUnknown p (changed p w)
 changes_unknown w p unsure faults = record {
   unknown = unsure;
   site = refl;
@@ -247,14 +248,21 @@ begun_place : (leftovers : Leftovers) (w : View) (s : Site) (p : Place) (site : 
 begun_place leftovers w s p site law b =
     place_of_images leftovers w p site (begins s.name p.left.broken p.outcomes) (begins_so s.name p.standings) law b.simulated b.still_told (λ sure f i. let k = b.images sure f i in (k.0, begins_among s.name p.left.broken p.outcomes k.1.0 k.0 k.1.1 k.1.2, k.2)) b.standings
 
+-- what beginning a reign may leave starting may
+after_start : (name : Name) (p : Place) (o : Contents) → After (MayBegin name p.left.broken) p.outcomes o → After (MayStart name p.left.broken) p.outcomes o
+after_start name p o k = (k.0, k.1, inl k.2)
+
+stand_start : (name : Name) (x : Option (List Standing)) → StandAfter (MayStartLeft name) x (begins_so name x)
+stand_start name x = stand_more x (begins_so name x) (MayBeginLeft name) (MayStartLeft name) (λ s o k. inl k) (begun_so name x)
+
 pub begun_cut : (leftovers : Leftovers) (w : View) (s : Site) (p : Place) → IsLawful w → MayHaveBegun w s p → p.faults ≤ w.faults → (q : Place) × LeftByRow (start s.name p) p q × Matches w q
 begun_cut leftovers w s p law b later =
     let m = begun_place leftovers w s p p.site law b in (
       record { site = p.site; told = p.told; now = m.now; left = m.left; outcomes = begins s.name p.left.broken p.outcomes; standings = begins_so s.name p.standings; shown = w.content; faults = w.faults; simulated = p.simulated },
       record {
         told = refl;
-        outcomes = λ sure o a. inr (among_begins s.name p.left.broken p.outcomes o a);
-        standings = λ sure. left_new (MayBeginLeft s.name) p.standings (begins_so s.name p.standings) (begun_so s.name p.standings);
+        outcomes = λ sure o a. inr (after_start s.name p o (among_begins s.name p.left.broken p.outcomes o a));
+        standings = λ sure. left_new (MayStartLeft s.name) p.standings (begins_so s.name p.standings) (stand_start s.name p.standings);
         faults = later;
         simulated = refl;
       },
@@ -277,7 +285,7 @@ begun_fault leftovers w s p k before now law down site made b count rose t =
     (early_down s p down site)
     (record {
       site = refl;
-      known = record { told = refl; now = λ sure. among_begins s.name p.left.broken p.outcomes m.now (m.among sure); left = m.behind; outcomes = λ sure o a. among_begins s.name p.left.broken p.outcomes o a; standings = λ sure. begun_so s.name p.standings };
+      known = record { told = refl; now = λ sure. after_start s.name p m.now (among_begins s.name p.left.broken p.outcomes m.now (m.among sure)); left = m.behind; outcomes = λ sure o a. after_start s.name p o (among_begins s.name p.left.broken p.outcomes o a); standings = λ sure. stand_start s.name p.standings };
       count = sym count;
       rose = subst (λ (x : ℕ). Rose p.faults x) (sym count) rose;
       simulated = refl;
@@ -397,7 +405,7 @@ load_damaged v w s file offset before now down outside bytes unwritten same late
     here.2 p.now (is_site here.0 p.now (h.held.made sure).now.made here.1))) bytes unwritten same later t
 
 -- a CUT gives no other name
-cut_named : (rs : List InstanceRecord) (n g : ℕ) → site_name (rs ++ Cut n g ∷ []) ≡ site_name rs
+pub cut_named : (rs : List InstanceRecord) (n g : ℕ) → site_name (rs ++ Cut n g ∷ []) ≡ site_name rs
 cut_named [] n g = refl
 cut_named (Create name regions ∷ rs) n g = refl
 cut_named (Reigned r ∷ rs) n g = refl
@@ -532,7 +540,7 @@ limit_by o u seq broken c n none_left from remembered limit =
     limit_same (no_reign_left (read_so u seq)) none_left
     (sym (limit_alike c (read_so u seq) (records_same o u seq broken c n from remembered) (count_same o u seq (opened broken c) n from remembered)) ∙ sym (limit_opened broken c) ∙ limit_is (opened broken c) none_left limit)
 
-limited_by : (v : View) (s : Site) (o : Memory) (p : Place) → IsOpenedAt v s o p → ((c : Contents) (n : ℕ) → Remembers c n o → no_reign_left c ≡ true) → IfShown p (LimitedBy ReignLimit)
+pub limited_by : (v : View) (s : Site) (o : Memory) (p : Place) → IsOpenedAt v s o p → ((c : Contents) (n : ℕ) → Remembers c n o → no_reign_left c ≡ true) → IfShown p (LimitedBy ReignLimit)
 limited_by v s o p h limit =
     if_some p.shown (HeldBy o) (LimitedBy ReignLimit)
     (λ f k. (k.0, k.1, k.2, k.3, limit_by o k.0 k.1 h.broken h.read (length h.read.sequence) true k.4.0 h.is_open.remembered (limit (opened h.broken h.read) (length h.read.sequence) h.is_open.remembered))) h.held
@@ -549,7 +557,7 @@ started_by v s o p h room =
       (sym (ap site_name k.4.0.instance ∙ cut_named k.0.instance _ _) ∙ h.name, k.4.1, limit_by o k.0 k.1 h.broken h.read (length h.read.sequence) false k.4.0 h.is_open.remembered (room (opened h.broken h.read) (length h.read.sequence) h.is_open.remembered), k.4.2),
     )) h.held
 
-read_by : (v : View) (s : Site) (o : Memory) (p : Place) (h : IsOpenedAt v s o p) → IfShown p (BySequence (λ u seq. (h.read.instance ≡ u.instance) × (length h.read.sequence ≡ length seq)))
+pub read_by : (v : View) (s : Site) (o : Memory) (p : Place) (h : IsOpenedAt v s o p) → IfShown p (BySequence (λ u seq. (h.read.instance ≡ u.instance) × (length h.read.sequence ≡ length seq)))
 read_by v s o p h =
     if_some p.shown (HeldBy o) (BySequence (λ u seq. (h.read.instance ≡ u.instance) × (length h.read.sequence ≡ length seq)))
     (λ f k. (
@@ -561,38 +569,19 @@ read_by v s o p h =
     )) h.held
 
 -- there is no reign left
-reign_limit_told : (v : View) (s : Site) (o : Memory) (nothing : NothingIsLeft v o) (before now : List ℕ) (p : Place) → IsLawful v → IsOpenedAt v s o p → p.told ≡ true → ((c : Contents) (n : ℕ) → Remembers c n o → no_reign_left c ≡ true)
-    → now ≡ before ++ line s.name (codes "REIGNLIMIT") → Answers v s p s before now false
-reign_limit_told v s o nothing before now p law h sure limit t =
-    let c : Contents = opened p.left.broken p.now in
-    let is_open : IsOpen v p.told c (length c.sequence) o = subst (λ (x : Contents). IsOpen v p.told (opened p.left.broken x) (length x.sequence) o) (h.as_before sure)
-    (subst (λ (b : List ℕ). IsOpen v p.told (opened b h.read) (length h.read.sequence) o) (h.as_left sure) h.is_open) in
-    let q : Place = record { site = in_new_state world.Down p.site; told = p.told; now = c; left = NO_LEFTOVER; outcomes = c ∷ []; standings = Some (bare c ∷ []); shown = v.content; faults = v.faults; simulated = p.simulated } in
-    let full : reign_limit p.now ≡ Some ReignLimit = sym (limit_opened p.left.broken p.now) ∙ limit_is c true (limit c (length c.sequence) is_open.remembered) in
-    let of : IsOf s.name c = of_opened s.name p.left.broken p.now (h.made sure).now in
-    comes_refused
-    (record { site = s.name; cause = ReignLimit })
-    q
-    (refused_late s.name (in_state why_not_down p.site) (limited p) ReignLimit (why_at s Down p h.down h.site) (limited_told p None None (Some ReignLimit) sure (h.drawn sure) (h.forward sure) full))
-    (record { site = refl; known = record { told = refl; now = refl; left = refl; outcomes = refl; standings = refl }; faults = h.faults; simulated = refl })
-    (limited_by v s o p h limit)
-    (record {
-      disk = place_of_one v p q.site c h.simulated (λ is. open_reads v o nothing p.told c law is is_open) (λ is. open_images v o nothing p.told c is is_open);
-      site = ap (in_new_state world.Down) h.site ∙ ap (λ (x : world.State). Some (record { name = s.name; state = x })) (ap state_value (sym h.down));
-      held = record { made = λ is. record { now = of; outcomes = λ x j. subst (IsOf s.name) (sym (only x c j)) of }; state = subst (λ (x : State). HoldsState v x q) (sym h.down) tt };
-    })
-    t
 
-reign_limit_untold : (v : View) (s : Site) (o : Memory) (before now : List ℕ) (p : Place) → IsOpenedAt v s o p → p.told ≡ false → ((c : Contents) (n : ℕ) → Remembers c n o → no_reign_left c ≡ true) → now ≡ before ++ line s.name (codes "REIGNLIMIT") → Answers v s p s before now false
-reign_limit_untold v s o before now p h unsure limit t =
-    comes_may_refuse (record { site = s.name; cause = ReignLimit }) (changed p v) (early_down s p h.down h.site)
-    (refl, inr (inl (refl, changes_unknown v p unsure h.faults))) (limited_by v s o p h limit) (changed_at v s p h.down h.site unsure h.simulated) t
+pub limit_left : (broken : List ℕ) (c : Contents) → no_reign_left (opened broken c) ≡ true → no_reign_left c ≡ true
+limit_left broken c e = limit_same (no_reign_left c) true (sym (limit_opened broken c) ∙ limit_is (opened broken c) true e)
 
-pub reign_limited : (v : View) (s : Site) (o : Memory) (nothing : NothingIsLeft v o) (before now : List ℕ) → IsLawful v → ((c : Contents) (n : ℕ) → Remembers c n o → no_reign_left c ≡ true) → now ≡ before ++ line s.name (codes "REIGNLIMIT") → Begins v o s v s before now false
-reign_limited v s o nothing before now law limit t p h = elim (is_true_or_false p.told) [
-  | inl sure ↦ reign_limit_told v s o nothing before now p law h sure limit t
-  | inr unsure ↦ reign_limit_untold v s o before now p h unsure limit t
-]
+pub limit_refuses : (v : View) (s : Site) (o : Memory) (p : Place) → IsOpenedAt v s o p → p.told ≡ true → no_reign_left p.now ≡ true → refusal_in (start s.name p) ≡ Some (record { site = s.name; cause = ReignLimit })
+limit_refuses v s o p h sure full =
+    refused_late s.name (in_state why_not_down p.site) (limited p) ReignLimit (why_at s Down p h.down h.site) (limited_told p None None (Some ReignLimit) sure (h.drawn sure) (h.forward sure) (limit_is p.now true full))
+
+pub reign_limit_untold : (v w : View) (s : Site) (o : Memory) (before now : List ℕ) (p : Place) → IsOpenedAt v s o p → p.told ≡ false → ((c : Contents) (n : ℕ) → Remembers c n o → no_reign_left c ≡ true) → w.simulated ≡ v.simulated → v.faults ≤ w.faults
+    → now ≡ before ++ line s.name (codes "REIGNLIMIT") → Answers w s p s before now false
+reign_limit_untold v w s o before now p h unsure limit same later t =
+    comes_may_refuse (record { site = s.name; cause = ReignLimit }) (changed p w) (early_down s p h.down h.site)
+    (refl, inr (inl (refl, changes_unknown w p unsure (omega (arith, h.faults, later))))) (limited_by v s o p h limit) (changed_at w s p h.down h.site unsure (same ∙ h.simulated)) t
 
 entries_open : (v : View) (told : Bool) (c : Contents) (n : ℕ) (o : Memory) → IsOpen v told c n o → count_of o ≡ length c.sequence
 entries_open v told c n o h = entries_count c n o h.remembered
@@ -636,7 +625,7 @@ reign_starts v w s o new nothing stamp serials from before now law first_serials
       site = ap (in_new_state state) h.site ∙ ap (λ (x : world.State). Some (record { name = s.name; state = x })) (states_same stamp_new first_serials);
       held = record {
         made = λ sure. record { now = of sure; outcomes = λ x j. subst (IsOf s.name) (sym (only x d j)) (of sure) };
-        state = record { reigns = is_open; settled = λ sure x j. only x d j; left = λ sure. refl; standings = λ sure. refl };
+        state = record { opens = is_open; settled = λ sure x j. only x d j; left = λ sure. refl; standings = λ sure. refl };
       };
     })
     (t ∙ ap (λ (k : ℕ). before ++ line s.name (codes "PRIMARY " ++ decimal k ++ codes " FROM " ++ decimal from)) cycle

@@ -10,6 +10,7 @@ use Rattle.world_defs.specs.Step.{CutOff}
 use Rattle.world_defs.specs.Runs.{Told, Runs, commands}
 use Rattle.world_defs.specs.Fit.{IsFitPlace, IsFit}
 use Rattle.world_laws.specs.Again.{HasFitOutcomes}
+use Rattle.world_laws.specs.Fed.{FeedsFit, KeepsFit, HasNoFollower, MakesNoFollower}
 use Rattle.world_laws.proofs.Lists.{all-weaker}
 use Rattle.site_runner.specs.declared.status.Status.{Status}
 use Rattle.site_runner.specs.declared.status.Status.TheVariants.{Ok, BadWords, BadLine, ScriptTooLong, SourceFault, SinkFault, NoMemory}
@@ -36,18 +37,20 @@ not_cut SourceFault lines count p mid after not e = e
 not_cut SinkFault lines count p mid after not e = e
 not_cut NoMemory lines count p mid after not e = absurd (not refl)
 
--- what commands keep, a run keeps
+-- what commands keep, a run keeps, where no site follows another one
 pub stays_fit : (status : Status) (source left : Option (List ℕ)) (start after : World) (old new : Option (List ℕ))
-    → ((w m : World) (told : List Told) (text : List ℕ) → AllByRecursion IsFormed (commands told) → IsFit w → Runs w told m text → IsFit m)
-    → ((w m : World) (c : Command) → IsFormed c → IsFit w → CutOff w c m → AllByRecursion HasFitOutcomes m.places)
-    → RanTo status source left start after old new → StaysFit status start after
-stays_fit status source left start after old new runs cut r = record {
-  outcomes = λ fit. elim (ends_or_cut status (lines_of r.input) r.count r.went.position r.mid after r.ends) [
-    | inl e ↦ subst (λ (w : World). AllByRecursion HasFitOutcomes w.places) (sym e) (fit_outcomes r.mid (mid_fit fit))
-    | inr s ↦ cut r.mid after s.command s.formed (mid_fit fit) s.left
+    → ((w m : World) (told : List Told) (text : List ℕ) → AllByRecursion IsFormed (commands told) → AllByRecursion MakesNoFollower (commands told) → HasNoFollower w → IsFit w → Runs w told m text → IsFit m)
+    → ((w m : World) (told : List Told) (text : List ℕ) → AllByRecursion MakesNoFollower (commands told) → HasNoFollower w → Runs w told m text → HasNoFollower m)
+    → ((w : World) (c : Command) → HasNoFollower w → FeedsFit w c)
+    → ((w m : World) (c : Command) → KeepsFit w c → IsFit w → CutOff w c m → AllByRecursion HasFitOutcomes m.places)
+    → HasNoFollower start → (r : RanTo status source left start after old new) → StaysFit status start r.went.told after
+stays_fit status source left start after old new runs stays alone cut none r = record {
+  outcomes = λ made fit. elim (ends_or_cut status (lines_of r.input) r.count r.went.position r.mid after r.ends) [
+    | inl e ↦ subst (λ (w : World). AllByRecursion HasFitOutcomes w.places) (sym e) (fit_outcomes r.mid (mid_fit made fit))
+    | inr s ↦ cut r.mid after s.command (s.formed, alone r.mid s.command (stays start r.mid r.went.told r.went.output made none r.went.runs)) (mid_fit made fit) s.left
   ];
-  world = λ not fit. subst IsFit (sym (not_cut status (lines_of r.input) r.count r.went.position r.mid after not r.ends)) (mid_fit fit);
+  world = λ made not fit. subst IsFit (sym (not_cut status (lines_of r.input) r.count r.went.position r.mid after not r.ends)) (mid_fit made fit);
 }
   where
-    mid_fit : IsFit start → IsFit r.mid
-    mid_fit fit = runs start r.mid r.went.told r.went.output r.went.formed fit r.went.runs
+    mid_fit : AllByRecursion MakesNoFollower (commands r.went.told) → IsFit start → IsFit r.mid
+    mid_fit made fit = runs start r.mid r.went.told r.went.output r.went.formed made none fit r.went.runs

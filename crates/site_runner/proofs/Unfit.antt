@@ -1,12 +1,12 @@
 -- Commands that aren't for the state of their site: each is refused by that state's one cause, and nothing changes.
-use Rattle.std.proofs.Common.{Box, Global, ◌≡◌, ℕ, List, [], ◌∷◌, ◌++◌, None, Some, refl, ap, subst}
+use Rattle.std.proofs.Common.{Box, Global, ◌≡◌, ◌∙◌, ℕ, Bool, true, false, List, [], ◌∷◌, ◌++◌, None, Some, refl, ap, subst}
 use Rattle.std.specs.Prelude.{Option, Result, IfSome, IfOk}
 use Rattle.disk_defs.specs.Disk.{View, Files}
-use Rattle.command_defs.specs.Commands.{Name, Command, Create, Attach, SetJournal, Map, StartPrimary, Run, Stop, Epoch, Fuse, Crash, Extract, Zwrite, Show, Print, Resync, RecoverBackward, RecoverForward}
+use Rattle.command_defs.specs.Commands.{Name, Command, Create, Attach, SetJournal, Map, StartPrimary, StartSecondary, Run, Stop, Epoch, Fuse, Crash, Extract, Zwrite, Show, Print, Resync, Fetchresync, Switch, Cut, RecoverBackward, RecoverForward}
 use Rattle.world_defs.specs.World as world
 use Rattle.world_defs.specs.World.{Place}
-use Rattle.world_defs.specs.Answers.{Cause, Stopped, Running, NotRunning, NotPrimary, Refused, line, cause_text}
-use Rattle.world_defs.specs.Row.{Row, first, refused_with, in_state, stopped, not_running, not_simulated, why_not_down, why_not_open, why_not_primary}
+use Rattle.world_defs.specs.Answers.{Cause, Stopped, Running, NotRunning, Refused, line, cause_text}
+use Rattle.world_defs.specs.Row.{Row, first, refused_with, in_state, stopped, not_running, not_simulated, why_not_down, why_not_open}
 use Rattle.world_defs.specs.Meaning.{row_at}
 use Rattle.world_defs.specs.rows.Print.{TypedBy}
 use Rattle.repl_section.specs.declared.reign.Reign as reigns
@@ -17,10 +17,11 @@ use Rattle.gvn_key.specs.declared.bytes.NoMemory.{NoMemory}
 use Rattle.site_runner.specs.declared.slot.Slot.{Slot}
 use Rattle.site_runner.specs.declared.slot.Slot.TheVariants as slots
 use Rattle.site_runner.specs.Causes.{cause_value}
-use Rattle.site_runner.specs.Ending.{down, primary, failed}
+use Rattle.site_runner.specs.Ending.{down, primary, secondary, failed}
+use Rattle.site_runner.specs.declared.secondary.Secondary.{Secondary}
 use Rattle.site_runner.specs.Executes.{Leaves}
 use Rattle.site_runner.specs.Named.{row_on, row_in}
-use Rattle.site_runner.specs.Sites.{Site, site_value, disk_in, site_in}
+use Rattle.site_runner.specs.Sites.{Site, site_value, state_value, following_value, disk_in, site_in}
 use Rattle.site_runner.proofs.Ats.{kept_same, any_shown, refuses_by}
 use Rattle.site_runner.proofs.Stopped.{leaves_at, cut_nowhere}
 use Rattle.repl_section.proofs.Results.{if_ok as on_done}
@@ -52,7 +53,6 @@ early_first test s p e = ap (λ (o : Option world.Site). refused_with s.name (fi
 -- A site that is down.
 
 abbrev pub unfit_down : Command → Option Cause
-unfit_down (Run name jobs order) = Some NotPrimary
 unfit_down (Stop name) = Some NotRunning
 unfit_down (Epoch name) = Some NotRunning
 unfit_down (Crash name pick) = Some NotRunning
@@ -66,7 +66,7 @@ down_is n Attach = tt
 down_is n (SetJournal name region before) = tt
 down_is n (Map name region text) = tt
 down_is n (StartPrimary name) = tt
-down_is n (Run name jobs order) = record { early = early_by why_not_primary (down n); same = kept_same; by = λ p. tt }
+down_is n (Run name jobs order) = tt
 down_is n (Stop name) = record { early = early_by why_not_open (down n); same = kept_same; by = λ p. tt }
 down_is n (Epoch name) = record { early = early_by why_not_open (down n); same = kept_same; by = λ p. tt }
 down_is n (Fuse name calls) = tt
@@ -76,6 +76,10 @@ down_is n (Zwrite name top) = record { early = early_by why_not_open (down n); s
 down_is n (Show name) = tt
 down_is n (Print name lost g) = tt
 down_is n (Resync name number) = tt
+down_is n (StartSecondary name primary) = tt
+down_is n (Fetchresync name primary) = tt
+down_is n (Switch primary name) = tt
+down_is n (Cut name bytes) = tt
 down_is n (RecoverBackward name) = tt
 down_is n (RecoverForward name) = tt
 
@@ -89,18 +93,21 @@ abbrev pub unfit_open : Command → Option Cause
 unfit_open (SetJournal name region before) = Some Running
 unfit_open (Map name region text) = Some Running
 unfit_open (StartPrimary name) = Some Running
-unfit_open (Resync name number) = Some Running
 unfit_open (RecoverBackward name) = Some Running
 unfit_open (RecoverForward name) = Some Running
 unfit_open c = None
 
-module _ {D : Type 0} (n : Name) (r : reigns.Reign D) where
-  open_is : (c : Command) → IfSome (unfit_open c) (IsUnfit (row_on c) (primary n r))
+module _ (s : Site) (runs : why_not_down (state_value s.state) ≡ Some Running) where
+  open_early : (p : Place) → p.site ≡ Some (site_value s) → refused_with s.name (in_state why_not_down p.site) ≡ refused_with s.name (Some Running)
+  open_early p e = early_by why_not_down s p e ∙ ap (refused_with s.name) runs
+
+  open_is : (c : Command) → IfSome (unfit_open c) (IsUnfit (row_on c) s)
   open_is (Create name regions) = tt
   open_is Attach = tt
-  open_is (SetJournal name region before) = record { early = early_by why_not_down (primary n r); same = kept_same; by = λ p. any_shown p.shown }
-  open_is (Map name region text) = record { early = early_by why_not_down (primary n r); same = kept_same; by = λ p. any_shown p.shown }
-  open_is (StartPrimary name) = record { early = early_by why_not_down (primary n r); same = kept_same; by = λ p. any_shown p.shown }
+  open_is (SetJournal name region before) = record { early = open_early; same = kept_same; by = λ p. any_shown p.shown }
+  open_is (Map name region text) = record { early = open_early; same = kept_same; by = λ p. any_shown p.shown }
+  open_is (StartPrimary name) = record { early = open_early; same = kept_same; by = λ p. any_shown p.shown }
+  open_is (StartSecondary name primary) = tt
   open_is (Run name jobs order) = tt
   open_is (Stop name) = tt
   open_is (Epoch name) = tt
@@ -110,14 +117,27 @@ module _ {D : Type 0} (n : Name) (r : reigns.Reign D) where
   open_is (Zwrite name top) = tt
   open_is (Show name) = tt
   open_is (Print name lost g) = tt
-  open_is (Resync name number) = record { early = early_by why_not_down (primary n r); same = kept_same; by = λ p. any_shown p.shown }
-  open_is (RecoverBackward name) = record { early = early_by why_not_down (primary n r); same = kept_same; by = λ p. any_shown p.shown }
-  open_is (RecoverForward name) = record { early = early_by why_not_down (primary n r); same = kept_same; by = λ p. any_shown p.shown }
+  open_is (Resync name number) = tt
+  open_is (Fetchresync name primary) = tt
+  open_is (Switch primary name) = tt
+  open_is (Cut name bytes) = tt
+  open_is (RecoverBackward name) = record { early = open_early; same = kept_same; by = λ p. any_shown p.shown }
+  open_is (RecoverForward name) = record { early = open_early; same = kept_same; by = λ p. any_shown p.shown }
 
 pub refused_open : {D : Type 0} (view : D → View) (c : Command) (cause : code.Cause) (reign : Box (reigns.Reign D) Global) (name n : Name) (r : Result Ended NoMemory) (before now : List ℕ) → unfit_open c ≡ Some (cause_value cause) → n ≡ name
     → IfOk r (λ ended. (ended ≡ Undone) × (now ≡ before ++ line n (cause_text (cause_value cause)))) → Leaves view (row_in c) (slots.Open reign name) (slots.Open reign name, r) before now
 refused_open view c cause reign name n r before now is e h =
-    unfit_leaves view (row_on c) (slots.Open reign name) (primary name reign.value) cause n r before now refl (of_some (unfit_open c) (cause_value cause) (IsUnfit (row_on c) (primary name reign.value)) is (open_is name reign.value c)) e h
+    unfit_leaves view (row_on c) (slots.Open reign name) (primary name reign.value) cause n r before now refl (of_some (unfit_open c) (cause_value cause) (IsUnfit (row_on c) (primary name reign.value)) is (open_is (primary name reign.value) refl c)) e h
+
+follower_running : (waits : Bool) (primary : Name) → why_not_down (following_value waits primary) ≡ Some Running
+follower_running true primary = refl
+follower_running false primary = refl
+
+pub refused_secondary : {D : Type 0} (view : D → View) (c : Command) (cause : code.Cause) (s : Box (Secondary D) Global) (name n : Name) (r : Result Ended NoMemory) (before now : List ℕ) → unfit_open c ≡ Some (cause_value cause) → n ≡ name
+    → IfOk r (λ ended. (ended ≡ Undone) × (now ≡ before ++ line n (cause_text (cause_value cause)))) → Leaves view (row_in c) (slots.Secondary s name) (slots.Secondary s name, r) before now
+refused_secondary view c cause s name n r before now is e h =
+    let site = secondary name s.value in
+    unfit_leaves view (row_on c) (slots.Secondary s name) site cause n r before now refl (of_some (unfit_open c) (cause_value cause) (IsUnfit (row_on c) site) is (open_is site (follower_running s.value.waits s.value.primary) c)) e h
 
 -- A site that has failed.
 
@@ -126,6 +146,12 @@ unfit_failed k (Create name regions) = None
 unfit_failed k Attach = None
 unfit_failed k (Crash name pick) = None
 unfit_failed k (Show name) = None
+unfit_failed k (StartSecondary name primary) = None
+unfit_failed k (Run name jobs order) = None
+unfit_failed k (Resync name number) = None
+unfit_failed k (Fetchresync name primary) = None
+unfit_failed k (Switch primary name) = None
+unfit_failed k (Cut name bytes) = None
 unfit_failed k c = Some (Stopped k)
 
 module _ (n : Name) (k : ℕ) where
@@ -135,7 +161,11 @@ module _ (n : Name) (k : ℕ) where
   failed_is (SetJournal name region before) = record { early = early_by why_not_down (failed n k); same = kept_same; by = λ p. any_shown p.shown }
   failed_is (Map name region text) = record { early = early_by why_not_down (failed n k); same = kept_same; by = λ p. any_shown p.shown }
   failed_is (StartPrimary name) = record { early = early_by why_not_down (failed n k); same = kept_same; by = λ p. any_shown p.shown }
-  failed_is (Run name jobs order) = record { early = early_by why_not_primary (failed n k); same = kept_same; by = λ p. tt }
+  failed_is (StartSecondary name primary) = tt
+  failed_is (Run name jobs order) = tt
+  failed_is (Fetchresync name primary) = tt
+  failed_is (Switch primary name) = tt
+  failed_is (Cut name bytes) = tt
   failed_is (Stop name) = record { early = early_by why_not_open (failed n k); same = kept_same; by = λ p. tt }
   failed_is (Epoch name) = record { early = early_by why_not_open (failed n k); same = kept_same; by = λ p. tt }
   failed_is (Fuse name calls) = record { early = early_first stopped (failed n k); same = kept_same; by = λ p. tt }
@@ -148,7 +178,7 @@ module _ (n : Name) (k : ℕ) where
       typed : (x : Option Files) → IfSome x (TypedBy lost g (Refused (record { site = n; cause = Stopped k })))
       typed None = tt
       typed (Some f) = λ is. cc
-  failed_is (Resync name number) = record { early = early_by why_not_down (failed n k); same = kept_same; by = λ p. any_shown p.shown }
+  failed_is (Resync name number) = tt
   failed_is (RecoverBackward name) = record { early = early_by why_not_down (failed n k); same = kept_same; by = λ p. any_shown p.shown }
   failed_is (RecoverForward name) = record { early = early_by why_not_down (failed n k); same = kept_same; by = λ p. any_shown p.shown }
 

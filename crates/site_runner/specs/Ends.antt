@@ -11,6 +11,7 @@ use Rattle.world_defs.specs.Step.{Step, CutOff}
 use Rattle.world_defs.specs.Runs.{Told, Runs, commands}
 use Rattle.world_defs.specs.Fit.{IsFit}
 use Rattle.world_laws.specs.Again.{HasFitOutcomes}
+use Rattle.world_laws.specs.Fed.{MakesNoFollower}
 use Rattle.line_reader.specs.Lines.{IsPiece}
 use Rattle.site_runner.specs.declared.status.Status.{Status}
 use Rattle.site_runner.specs.declared.status.Status.TheVariants.{Ok, BadWords, BadLine, ScriptTooLong, SourceFault, SinkFault, NoMemory}
@@ -111,11 +112,15 @@ pub record RanTo (status : Status) (source left : Option (List ℕ)) (start afte
   pub went : Went status (take count (lines_of input)) start mid old new
   pub ends : EndsSo status (lines_of input) count went.position mid after
 
+-- among these commands there was none other
+abbrev pub NoneFollows : List Told → Type 0
+NoneFollows told = AllByRecursion MakesNoFollower (commands told)
+
 -- Where the disks were fit before the run, each outcome of each disk is fit behind it, and unless it ended for want of memory, which
--- may cut a command off, all of the world is.
-pub record StaysFit (status : Status) (start after : World) : Type 0 where
-  pub outcomes : IsFit start → AllByRecursion HasFitOutcomes after.places
-  pub world : status ≢ NoMemory → IsFit start → IsFit after
+-- may cut a command off, all of the world is. A site that follows another one takes what comes, so with START SECONDARY or SWITCH this is said of disks that share one history.
+pub record StaysFit (status : Status) (start : World) (told : List Told) (after : World) : Type 0 where
+  pub outcomes : NoneFollows told → IsFit start → AllByRecursion HasFitOutcomes after.places
+  pub world : NoneFollows told → status ≢ NoMemory → IsFit start → IsFit after
 
 -- a byte follows the last line feed that there may be, and the lines before it are in the grammar
 pub record IsTooLong (lines : List (List ℕ)) : Type 0 where

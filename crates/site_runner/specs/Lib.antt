@@ -3,9 +3,11 @@ pub mod Causes
 pub mod Sites
 pub mod Ending
 pub mod Tied
+pub mod Alike
 pub mod Moved
 pub mod Executes
 pub mod Named
+pub mod Pairs
 pub mod Steps
 pub mod Looking
 pub mod Creating
@@ -15,6 +17,11 @@ pub mod Mapping
 pub mod Marking
 pub mod Recovering
 pub mod Refusing
+pub mod Linked
+pub mod Feeding
+pub mod Sections
+pub mod Waiting
+pub mod Switching
 pub mod Setting
 pub mod Ends
 pub mod Meant

@@ -1,6 +1,6 @@
 // Answers of commands that weren't done.
 ghost use Rattle.std.specs.Prelude.{◌≡◌, ◌++◌, IfOk};
-ghost use Rattle.world_defs.specs.Answers.{line, cause_text, fault_line, damage_line};
+ghost use Rattle.world_defs.specs.Answers.{line, cause_text, fault_line, damage_line, bad_frame_line};
 ghost use Rattle.site_runner.specs.declared.ending.Ended.TheVariants.{Undone, Failed};
 ghost use Rattle.site_runner.specs.Causes.{cause_value};
 
@@ -34,5 +34,13 @@ pub fn damaged(text: &mut Bytes, name: &[u8], file: u32, offset: u64) -> Result<
     ensures { IfOk result (λ ended. (ended ≡ Undone) × (text.new ≡ text.old ++ damage_line name.now file offset)) }
 {
     write_not_a_file(text, name, file, offset)?;
+    Ok(Ended::Undone)
+}
+
+/// Adds the line of bytes of a connection that have no admissible frame at that place. Answers that the command wasn't done.
+pub fn bad_frame(text: &mut Bytes, name: &[u8], offset: u64) -> Result<Ended, NoMemory>
+    ensures { IfOk result (λ ended. (ended ≡ Undone) × (text.new ≡ text.old ++ bad_frame_line name.now offset)) }
+{
+    write_numbered(text, name, b"BADFRAME ", offset)?;
     Ok(Ended::Undone)
 }

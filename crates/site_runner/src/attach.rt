@@ -1,6 +1,7 @@
 // ATTACH.
 ghost use Rattle.std.specs.Prelude.{◌≡◌, length, OnOk, OnErr, IfOk};
 ghost use Rattle.site_defs.specs.Lists.{first_where};
+ghost use Rattle.wire_defs.specs.Links.{Linking};
 ghost use Rattle.command_defs.specs.Commands.{Attach};
 ghost use Rattle.site_runner.specs.Ending.{is_done_at};
 ghost use Rattle.site_runner.specs.Executes.{Executes, IsCutOff};
@@ -68,8 +69,8 @@ pub fn attach<D: Disk>(
 ) -> Result<Ended, NoMemory>
     requires { AreReady D.disk slots.old.items }
     ensures ready { OnOk result (AreReady D.disk slots.new.items) }
-    ensures done { OnOk result (Executes D.disk Attach slots.old.items slots.new.items text.old text.new) }
-    ensures cut_off { OnErr result (IsCutOff D.disk Attach slots.old.items slots.new.items) }
+    ensures done { (links : Linking) → OnOk result (Executes D.disk Attach links links slots.old.items slots.new.items text.old text.new) }
+    ensures cut_off { (links : Linking) → OnErr result (IsCutOff D.disk Attach links slots.old.items slots.new.items) }
     ensures length { length slots.new.items ≡ length slots.old.items }
 {
     match take_free(slots) {

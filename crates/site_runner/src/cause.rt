@@ -18,6 +18,8 @@ pub enum Cause {
     Running,
     NotRunning,
     NotPrimary,
+    /// It doesn't follow the primary that the command names.
+    NotFollowing,
     NotSimulated,
     /// The site's journals have begun.
     Started,
@@ -35,6 +37,10 @@ pub enum Cause {
     NoBefore { region: Bytes, generation: u32 },
     /// The region needs forward recovery for all entries.
     NeedForward { region: Bytes },
+    /// Four connections to the primary were cut.
+    LinkCut,
+    /// From this number on its entries aren't the primary's, and have to be rolled back first.
+    RollbackFirst { number: u64 },
 }
 
 impl Cause {
@@ -55,6 +61,7 @@ impl Cause {
             Cause::Running => text.push_all(b"RUNNING"),
             Cause::NotRunning => text.push_all(b"NOTRUNNING"),
             Cause::NotPrimary => text.push_all(b"NOTPRIMARY"),
+            Cause::NotFollowing => text.push_all(b"NOTFOLLOWING"),
             Cause::NotSimulated => text.push_all(b"NOTSIMULATED"),
             Cause::Started => text.push_all(b"STARTED"),
             Cause::NoRegion { region } => {
@@ -74,6 +81,11 @@ impl Cause {
             Cause::NeedForward { region } => {
                 text.push_all(b"NEEDFORWARD ")?;
                 text.push_all(region.as_slice())
+            }
+            Cause::LinkCut => text.push_all(b"LINKCUT"),
+            Cause::RollbackFirst { number } => {
+                text.push_all(b"ROLLBACKFIRST ")?;
+                text.push_decimal(*number)
             }
         }
     }

@@ -5,6 +5,7 @@ ghost use Rattle.gvn_model.specs.Regions.{named_region};
 ghost use Rattle.disk_defs.specs.Gates.{records};
 ghost use Rattle.journal_defs.specs.Numbers.{INSTANCE};
 ghost use Rattle.site_defs.specs.Lists.{first_where};
+ghost use Rattle.wire_defs.specs.Links.{Linking};
 ghost use Rattle.command_defs.specs.Commands as commands;
 ghost use Rattle.command_defs.specs.Commands.{IsFormed};
 ghost use Rattle.world_defs.specs.rows.Create as rows;
@@ -106,8 +107,8 @@ fn create_new<D: Disk>(
     requires none { first_where (is_slot_named name) slots.old.items ≡ None }
     requires ready { AreReady D.disk slots.old.items }
     ensures ready { OnOk result (AreReady D.disk slots.new.items) }
-    ensures done { OnOk result (Executes D.disk (commands.Create name (map named_region regions.now)) slots.old.items slots.new.items text.old text.new) }
-    ensures cut_off { OnErr result (IsCutOff D.disk (commands.Create name (map named_region regions.now)) slots.old.items slots.new.items) }
+    ensures done { (links : Linking) → OnOk result (Executes D.disk (commands.Create name (map named_region regions.now)) links links slots.old.items slots.new.items text.old text.new) }
+    ensures cut_off { (links : Linking) → OnErr result (IsCutOff D.disk (commands.Create name (map named_region regions.now)) links slots.old.items slots.new.items) }
     ensures length { length slots.new.items ≡ length slots.old.items }
 {
     match take_free(slots) {
@@ -131,8 +132,8 @@ pub fn create<D: Disk>(
     requires formed { IsFormed (commands.Create name (map named_region regions)) }
     requires ready { AreReady D.disk slots.old.items }
     ensures ready { OnOk result (AreReady D.disk slots.new.items) }
-    ensures done { OnOk result (Executes D.disk (commands.Create name (map named_region regions)) slots.old.items slots.new.items text.old text.new) }
-    ensures cut_off { OnErr result (IsCutOff D.disk (commands.Create name (map named_region regions)) slots.old.items slots.new.items) }
+    ensures done { (links : Linking) → OnOk result (Executes D.disk (commands.Create name (map named_region regions)) links links slots.old.items slots.new.items text.old text.new) }
+    ensures cut_off { (links : Linking) → OnErr result (IsCutOff D.disk (commands.Create name (map named_region regions)) links slots.old.items slots.new.items) }
     ensures length { length slots.new.items ≡ length slots.old.items }
 {
     match find(slots, name.as_slice()) {

@@ -2,9 +2,10 @@
 ghost use Rattle.std.specs.Prelude.{◌≡◌, Some, Ok, Err, IfOk, OnOk, OnErr};
 ghost use Rattle.gvn_key.specs.declared.bytes.NoMemory.{NoMemory};
 ghost use Rattle.site_store.specs.Owning.{disk_of};
-ghost use Rattle.site_runner.specs.Ending.{down_after, primary_after, StaysReady};
+ghost use Rattle.site_runner.specs.Ending.{is_done_at, down_after, primary_after, secondary_after, StaysReady, StaysFollowing};
 ghost use Rattle.site_runner.specs.Sites.{disk_in, site_in, IsReadySlot};
 
+use super::secondary::Secondary;
 use super::slot::Slot;
 use gvn_key::{Bytes, NoMemory};
 use repl_disk::Disk;
@@ -21,6 +22,13 @@ pub enum Ended {
 }
 
 impl Ended {
+    /// Whether the command was done.
+    pub fn is_done(self) -> bool
+        ensures { result ≡ is_done_at self }
+    {
+        matches!(self, Ended::Done)
+    }
+
     /// That a command ended so once its line was written.
     pub fn after(self, written: Result<(), NoMemory>) -> Result<Ended, NoMemory>
         ensures written { OnOk written (result ≡ Ok self) }
@@ -65,5 +73,25 @@ pub fn opened<D: Disk>(
             (Slot::Failed { disk, name, fault }, ended)
         }
         _ => (Slot::Open { reign, name }, ended),
+    }
+}
+
+/// What a command that ended so left of the slot of a site that was a secondary. A site whose disk has failed is given up.
+pub fn followed<D: Disk>(
+    secondary: Box<Secondary<D>>,
+    name: Bytes,
+    ended: Result<Ended, NoMemory>,
+) -> (Slot<D>, Result<Ended, NoMemory>)
+    ensures ended { result.1 ≡ ended }
+    ensures disk { disk_in result.0 ≡ disk_of secondary.value.site }
+    ensures site { IfOk ended (λ e. site_in result.0 ≡ Some (secondary_after name secondary.value e)) }
+    ensures ready { IfOk ended (StaysFollowing D.disk name secondary.value) → OnOk ended (IsReadySlot D.disk result.0) }
+{
+    match ended {
+        Ok(Ended::Failed { fault }) => {
+            let disk = Box::into_inner(secondary).site.abandon();
+            (Slot::Failed { disk, name, fault }, ended)
+        }
+        _ => (Slot::Secondary { secondary, name }, ended),
     }
 }

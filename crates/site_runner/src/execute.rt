@@ -1,33 +1,44 @@
 // One command.
-ghost use Rattle.std.specs.Prelude.{◌≡◌, length, OnOk, OnErr, true};
+ghost use Rattle.std.specs.Prelude.{◌≡◌, length, IfOk, OnOk, OnErr, true};
 ghost use Rattle.command_defs.specs.Commands.{IsFormed, IsWhole};
 ghost use Rattle.repl_script.specs.Commands.{command_value};
-ghost use Rattle.site_runner.specs.Executes.{Leaves, Executes, IsCutOff};
+ghost use Rattle.site_runner.specs.Ending.{is_done_at};
+ghost use Rattle.site_runner.specs.Executes.{Leaves, Executes, EndsSo, IsCutOff};
+ghost use Rattle.wire_defs.specs.Links.{Linking};
 ghost use Rattle.site_runner.specs.Named.{IsNamed, name_in, row_in};
-ghost use Rattle.site_runner.specs.Sites.{is_slot_named, IsReadyOpen, IsReadySlot, AreReady};
+ghost use Rattle.site_runner.specs.Sites.{is_slot_named, IsReadyOpen, IsReadySecondary, IsReadySlot, AreReady};
+ghost use Rattle.site_runner.specs.Alike.{AreAlike};
 
 use super::answering::refuse;
 use super::attach::attach;
 use super::cause::Cause;
 use super::create::create;
 use super::ending::Ended;
-use super::epoch::epoch;
-use super::extracting::extract;
+use super::epoch::{epoch, epoch_secondary};
+use super::extracting::{extract, extract_secondary};
 use super::finding::{find, put_back_swapped};
-use super::fusing::{crash_failed, crash_open, fuse_down, fuse_open};
+use super::following::start_secondary;
+use super::fusing::{
+    crash_failed, crash_open, crash_secondary, fuse_down, fuse_open, fuse_secondary,
+};
+use super::linking::cut;
 use super::mapping::map;
-use super::printing::{print_down, print_open};
+use super::printing::{print_down, print_open, print_secondary};
 use super::recovering::recover;
-use super::rolling::rollback;
+use super::resyncing::roll_back_to;
+use super::rolling::roll_back;
+use super::secondary::Secondary;
 use super::section::run_section;
 use super::setting::set_journal;
-use super::showing::{show_down, show_failed, show_open};
+use super::showing::{show_down, show_failed, show_open, show_secondary};
 use super::slot::Slot;
 use super::start::start;
-use super::stop::stop;
-use super::zwriting::zwrite;
+use super::stop::{stop, stop_secondary};
+use super::switching::switch;
+use super::zwriting::{zwrite, zwrite_secondary};
 use gvn_key::{Bytes, NoMemory};
 use repl_disk::Disk;
+use repl_link::Linker;
 use repl_script::Command;
 use repl_section::Reign;
 use std::alloc::Global;
@@ -38,12 +49,17 @@ fn name_of(command: &Command) -> &Bytes
     ensures { result.now ≡ name_in (command_value command.now) }
 {
     match command {
-        Command::Attach => unreachable!(),
-        Command::Create { site, .. }
-        | Command::Map { site, .. }
+        Command::Attach
+        | Command::Create { .. }
+        | Command::StartSecondary { .. }
+        | Command::Run { .. }
+        | Command::Resync { .. }
+        | Command::Fetchresync { .. }
+        | Command::Cut { .. }
+        | Command::Switch { .. } => unreachable!(),
+        Command::Map { site, .. }
         | Command::SetJournal { site, .. }
         | Command::StartPrimary { site }
-        | Command::Run { site, .. }
         | Command::Stop { site }
         | Command::Epoch { site }
         | Command::Fuse { site, .. }
@@ -52,7 +68,6 @@ fn name_of(command: &Command) -> &Bytes
         | Command::Zwrite { site, .. }
         | Command::Show { site }
         | Command::Print { site, .. }
-        | Command::Resync { site, .. }
         | Command::RecoverBackward { site }
         | Command::RecoverForward { site } => site,
     }
@@ -72,7 +87,14 @@ fn on_down<D: Disk>(
     ensures left { Leaves D.disk (row_in (command_value command)) (Slot.Down disk name) result text.old text.new }
 {
     match command {
-        Command::Create { .. } | Command::Attach => unreachable!(),
+        Command::Create { .. }
+        | Command::Attach
+        | Command::StartSecondary { .. }
+        | Command::Run { .. }
+        | Command::Resync { .. }
+        | Command::Fetchresync { .. }
+        | Command::Cut { .. }
+        | Command::Switch { .. } => unreachable!(),
         Command::Map {
             region,
             pattern,
@@ -82,7 +104,6 @@ fn on_down<D: Disk>(
             alloc, disk, name, region, before, text,
         ),
         Command::StartPrimary { .. } => start(alloc, disk, name, text),
-        Command::Resync { number, .. } => rollback(alloc, disk, name, number, text),
         Command::RecoverBackward { .. } => recover(alloc, disk, name, false, text),
         Command::RecoverForward { .. } => recover(alloc, disk, name, true, text),
         Command::Fuse { calls, .. } => fuse_down(disk, name, calls, text),
@@ -92,10 +113,6 @@ fn on_down<D: Disk>(
             generation,
             ..
         } => print_down(disk, name, lost, generation, text),
-        Command::Run { .. } => {
-            let ended = refuse(text, name.as_slice(), &Cause::NotPrimary);
-            (Slot::Down { disk, name }, ended)
-        }
         Command::Stop { .. }
         | Command::Epoch { .. }
         | Command::Crash { .. }
@@ -123,10 +140,14 @@ fn on_open<D: Disk>(
     ensures left { Leaves D.disk (row_in (command_value command)) (Slot.Open reign name) result text.old text.new }
 {
     match command {
-        Command::Create { .. } | Command::Attach => unreachable!(),
-        Command::Run { jobs, order, .. } => {
-            run_section(alloc, reign, name, jobs, order.as_slice(), text)
-        }
+        Command::Create { .. }
+        | Command::Attach
+        | Command::StartSecondary { .. }
+        | Command::Run { .. }
+        | Command::Resync { .. }
+        | Command::Fetchresync { .. }
+        | Command::Cut { .. }
+        | Command::Switch { .. } => unreachable!(),
         Command::Stop { .. } => stop(reign, name, text),
         Command::Epoch { .. } => epoch(reign, name, text),
         Command::Fuse { calls, .. } => fuse_open(reign, name, calls, text),
@@ -142,11 +163,55 @@ fn on_open<D: Disk>(
         Command::Map { .. }
         | Command::SetJournal { .. }
         | Command::StartPrimary { .. }
-        | Command::Resync { .. }
         | Command::RecoverBackward { .. }
         | Command::RecoverForward { .. } => {
             let ended = refuse(text, name.as_slice(), &Cause::Running);
             (Slot::Open { reign, name }, ended)
+        }
+    }
+}
+
+/// Executes a command on the site that it names, which is a secondary.
+fn on_secondary<D: Disk>(
+    secondary: Box<Secondary<D>>,
+    name: Bytes,
+    command: Command,
+    text: &mut Bytes,
+) -> (Slot<D>, Result<Ended, NoMemory>)
+    requires formed { IsFormed (command_value command) }
+    requires command { IsNamed (command_value command) }
+    requires ready { IsReadySecondary D.disk name secondary.value }
+    ensures ready { OnOk result.1 (IsReadySlot D.disk result.0) }
+    ensures left { Leaves D.disk (row_in (command_value command)) (Slot.Secondary secondary name) result text.old text.new }
+{
+    match command {
+        Command::Create { .. }
+        | Command::Attach
+        | Command::StartSecondary { .. }
+        | Command::Run { .. }
+        | Command::Resync { .. }
+        | Command::Fetchresync { .. }
+        | Command::Cut { .. }
+        | Command::Switch { .. } => unreachable!(),
+        Command::Stop { .. } => stop_secondary(secondary, name, text),
+        Command::Epoch { .. } => epoch_secondary(secondary, name, text),
+        Command::Fuse { calls, .. } => fuse_secondary(secondary, name, calls, text),
+        Command::Crash { pick, .. } => crash_secondary(secondary, name, pick, text),
+        Command::Extract { number, .. } => extract_secondary(secondary, name, number, text),
+        Command::Zwrite { top, .. } => zwrite_secondary(secondary, name, top.as_ref(), text),
+        Command::Show { .. } => show_secondary(secondary, name, text),
+        Command::Print {
+            lost,
+            generation,
+            ..
+        } => print_secondary(secondary, name, lost, generation, text),
+        Command::Map { .. }
+        | Command::SetJournal { .. }
+        | Command::StartPrimary { .. }
+        | Command::RecoverBackward { .. }
+        | Command::RecoverForward { .. } => {
+            let ended = refuse(text, name.as_slice(), &Cause::Running);
+            (Slot::Secondary { secondary, name }, ended)
         }
     }
 }
@@ -164,16 +229,21 @@ fn on_failed<D: Disk>(
     ensures left { Leaves D.disk (row_in (command_value command)) (Slot.Failed disk name fault) result text.old text.new }
 {
     match command {
-        Command::Create { .. } | Command::Attach => unreachable!(),
+        Command::Create { .. }
+        | Command::Attach
+        | Command::StartSecondary { .. }
+        | Command::Run { .. }
+        | Command::Resync { .. }
+        | Command::Fetchresync { .. }
+        | Command::Cut { .. }
+        | Command::Switch { .. } => unreachable!(),
         Command::Crash { pick, .. } => crash_failed(disk, name, fault, pick, text),
         Command::Show { .. } => show_failed(disk, name, fault, text),
         Command::Map { .. }
         | Command::SetJournal { .. }
         | Command::StartPrimary { .. }
-        | Command::Run { .. }
         | Command::Stop { .. }
         | Command::Epoch { .. }
-        | Command::Resync { .. }
         | Command::RecoverBackward { .. }
         | Command::RecoverForward { .. }
         | Command::Fuse { .. }
@@ -204,6 +274,7 @@ fn execute_at<D: Disk>(
     match slot {
         Slot::Down { disk, name } => on_down(alloc, disk, name, command, text),
         Slot::Open { reign, name } => on_open(alloc, reign, name, command, text),
+        Slot::Secondary { secondary, name } => on_secondary(secondary, name, command, text),
         Slot::Failed { disk, name, fault } => on_failed(disk, name, fault, command, text),
         // no site stands there
         Slot::Free(disk) => {
@@ -213,8 +284,8 @@ fn execute_at<D: Disk>(
     }
 }
 
-/// Executes a command on the site that it names. Answers whether it was done.
-fn execute_named<D: Disk>(
+/// Executes a command on the one site that it names. Answers whether it was done.
+pub fn execute_named<D: Disk>(
     alloc: Global,
     slots: &mut Vec<Slot<D>>,
     command: Command,
@@ -225,8 +296,10 @@ fn execute_named<D: Disk>(
     requires command { IsNamed (command_value command) }
     requires ready { AreReady D.disk slots.old.items }
     ensures ready { OnOk result (AreReady D.disk slots.new.items) }
-    ensures done { OnOk result (Executes D.disk (command_value command) slots.old.items slots.new.items text.old text.new) }
-    ensures cut_off { OnErr result (IsCutOff D.disk (command_value command) slots.old.items slots.new.items) }
+    ensures done { (links : Linking) → OnOk result (Executes D.disk (command_value command) links links slots.old.items slots.new.items text.old text.new) }
+    // with one answer, by which it ended
+    ensures ends { (links : Linking) → IfOk result (λ ended. EndsSo D.disk (command_value command) links slots.old.items slots.new.items text.old text.new (is_done_at ended)) }
+    ensures cut_off { (links : Linking) → OnErr result (IsCutOff D.disk (command_value command) links slots.old.items slots.new.items) }
     ensures length { length slots.new.items ≡ length slots.old.items }
 {
     let name = name_of(&command).as_slice();
@@ -243,9 +316,10 @@ fn execute_named<D: Disk>(
 }
 
 /// Executes a command, and adds what it answers. Answers whether it was done.
-pub fn execute<D: Disk>(
+pub fn execute<D: Disk, L: Linker>(
     alloc: Global,
     slots: &mut Vec<Slot<D>>,
+    links: &mut L,
     command: Command,
     text: &mut Bytes,
 ) -> Result<Ended, NoMemory>
@@ -253,13 +327,36 @@ pub fn execute<D: Disk>(
     requires whole { IsWhole (command_value command) }
     requires ready { AreReady D.disk slots.old.items }
     ensures ready { OnOk result (AreReady D.disk slots.new.items) }
-    ensures done { OnOk result (Executes D.disk (command_value command) slots.old.items slots.new.items text.old text.new) }
-    ensures cut_off { OnErr result (IsCutOff D.disk (command_value command) slots.old.items slots.new.items) }
+    ensures done { OnOk result (Executes D.disk (command_value command) (L.links links.old) (L.links links.new) slots.old.items slots.new.items text.old text.new) }
+    ensures cut_off { OnErr result (IsCutOff D.disk (command_value command) (L.links links.old) slots.old.items slots.new.items) }
     ensures length { length slots.new.items ≡ length slots.old.items }
+    ensures like { AreAlike (L.links links.old) (L.links links.new) }
 {
     match command {
         Command::Create { site, regions } => create(alloc, slots, site, regions, text),
         Command::Attach => attach(alloc, slots, text),
+        Command::StartSecondary { site, primary } => {
+            start_secondary(alloc, slots, links, site.as_slice(), primary, text)
+        }
+        Command::Run { site, jobs, order } => {
+            let order = order.as_slice();
+            run_section(alloc, slots, links, site.as_slice(), jobs, order, text)
+        }
+        Command::Resync { site, number } => roll_back(alloc, slots, site.as_slice(), number, text),
+        Command::Fetchresync { site, primary } => {
+            roll_back_to(
+                alloc,
+                slots,
+                links,
+                site.as_slice(),
+                primary.as_slice(),
+                text,
+            )
+        }
+        Command::Cut { site, bytes } => cut(slots, links, site.as_slice(), bytes, text),
+        Command::Switch { primary, secondary } => {
+            switch(alloc, slots, links, primary, secondary, text)
+        }
         named => execute_named(alloc, slots, named, text),
     }
 }

@@ -8,13 +8,14 @@ ghost use Rattle.site_store.specs.Site.{count_of};
 ghost use Rattle.site_store.specs.Owning.{disk_of, memory_of, GoesOn, IsGoing, IsOpenSite};
 ghost use Rattle.world_defs.specs.Meaning.{row_at};
 ghost use Rattle.world_defs.specs.rows.Extract as rows;
-ghost use Rattle.site_runner.specs.Ending.{primary, primary_after, is_done_at, StaysReady};
+ghost use Rattle.site_runner.specs.Ending.{Role, open_as, open_after, is_done_at, StaysGoing};
 ghost use Rattle.site_runner.specs.Executes.{Leaves};
-ghost use Rattle.site_runner.specs.Sites.{IsReadyOpen, IsReadySlot};
+ghost use Rattle.site_runner.specs.Sites.{IsReadyOpen, IsReadySlot, IsReadySecondary};
 ghost use Rattle.site_runner.specs.Steps.{ExecutesAt, IsCutAt};
 
 use super::answering::{damaged, fail};
-use super::ending::{Ended, opened};
+use super::ending::{Ended, followed, opened};
+use super::secondary::Secondary;
 use super::slot::Slot;
 use gvn_key::{Bytes, NoMemory};
 use jnl_extract::write_header;
@@ -46,22 +47,22 @@ fn write_entries<D: Disk>(
 }
 
 /// Shows an open site's entries from a number on, or all, once all are read.
-fn extract_open<D: Disk>(
-    reign: &mut Reign<D>,
+fn extract_site<D: Disk>(
+    site: &mut Site<D>,
     name: &[u8],
     number: Option<u64>,
     text: &mut Bytes,
 ) -> Result<Ended, NoMemory>
-    requires ready { IsReadyOpen D.disk reign.old }
+    requires ready { IsGoing D.disk site.old }
     requires from { IfSome number (λ from. 0 < from) }
-    ensures ready { IfOk result (StaysReady D.disk reign.new) }
-    ensures done { IfOk result (λ ended. ExecutesAt (rows.extract number name.now) (D.disk (disk_of reign.old.site)) (primary name.now reign.old) (D.disk (disk_of reign.new.site)) (primary_after name.now reign.new ended) text.old text.new (is_done_at ended)) }
-    ensures cut_off { OnErr result (IsCutAt (rows.extract number name.now) (D.disk (disk_of reign.old.site)) (primary name.now reign.old) (D.disk (disk_of reign.new.site))) }
+    ensures ready { IfOk result (StaysGoing D.disk site.old site.new) }
+    ensures done { (role : Role) → IfOk result (λ ended. ExecutesAt (rows.extract number name.now) (D.disk (disk_of site.old)) (open_as role name.now site.old) (D.disk (disk_of site.new)) (open_after role name.now site.new ended) text.old text.new (is_done_at ended)) }
+    ensures cut_off { (role : Role) → OnErr result (IsCutAt (rows.extract number name.now) (D.disk (disk_of site.old)) (open_as role name.now site.old) (D.disk (disk_of site.new))) }
 {
     let from = number.unwrap_or(1);
     let mut lines = Bytes::new(text.allocator());
     write_header(name, from, &mut lines)?;
-    match write_entries(&mut reign.site, from.saturating_sub(1), &mut lines) {
+    match write_entries(site, from.saturating_sub(1), &mut lines) {
         Ok(()) => {
             text.push_all(lines.as_slice())?;
             Ok(Ended::Undone)
@@ -84,6 +85,23 @@ pub fn extract<D: Disk>(
     ensures ready { OnOk result.1 (IsReadySlot D.disk result.0) }
     ensures left { Leaves D.disk (row_at (rows.extract number)) (Slot.Open reign name) result text.old text.new }
 {
-    let ended = extract_open(reign.as_mut(), name.as_slice(), number, text);
+    let ended = extract_site(&mut reign.as_mut().site, name.as_slice(), number, text);
     opened(reign, name, ended)
+}
+
+/// Shows a secondary's entries from a number on, or all, once all are read. It counts as not done: no command goes on behind it.
+pub fn extract_secondary<D: Disk>(
+    mut secondary: Box<Secondary<D>>,
+    name: Bytes,
+    number: Option<u64>,
+    text: &mut Bytes,
+) -> (Slot<D>, Result<Ended, NoMemory>)
+    requires ready { IsReadySecondary D.disk name secondary.value }
+    requires from { IfSome number (λ from. 0 < from) }
+    ensures ready { OnOk result.1 (IsReadySlot D.disk result.0) }
+    ensures left { Leaves D.disk (row_at (rows.extract number)) (Slot.Secondary secondary name) result text.old text.new }
+{
+    let site = &mut secondary.as_mut().site;
+    let ended = extract_site(site, name.as_slice(), number, text);
+    followed(secondary, name, ended)
 }

@@ -64,7 +64,7 @@ pub fn refuse_region<D: Disk>(
     needing: Needing,
     text: &mut Bytes,
 ) -> Result<Ended, NoMemory>
-    ensures done { (command : Refusable) → IsAskedBy command needing → IfSome (D.disk disk.old).content (NeedsForward command needing region) → IfOk result (λ ended. RefusesAt command (D.disk disk.old) (down name.now) (D.disk disk.new) (down_after name.now ended) text.old text.new (is_done_at ended)) }
+    ensures done { (command : Refusable) → IsAskedBy command needing → IfSome (D.disk disk.old).content (NeedsForward command needing region) → IfOk result (λ ended. RefusesAt command needing (D.disk disk.old) (down name.now) (D.disk disk.new) (down_after name.now ended) text.old text.new (is_done_at ended)) }
     ensures cut_off { (command : Refusable) → OnErr result (IsCutDown command (D.disk disk.old) (down name.now) (D.disk disk.new)) }
 {
     leftovers_hold();

@@ -8,13 +8,15 @@ ghost use Rattle.world_defs.specs.Meaning.{row_at};
 ghost use Rattle.world_defs.specs.rows.Show as rows;
 ghost use Rattle.world_defs.specs.rows.Show.{reign_text};
 ghost use Rattle.repl_section.specs.Reigns.{stamp_in};
+ghost use Rattle.site_store.specs.Owning.{IsGoing};
 ghost use Rattle.site_runner.specs.Executes.{Leaves};
-ghost use Rattle.site_runner.specs.Sites.{IsReadyOpen, IsReadySlot, Primary, reign_in};
-ghost use Rattle.site_runner.specs.Steps.{state_text};
+ghost use Rattle.site_runner.specs.Sites.{IsReadyOpen, IsReadySlot, Primary, reign_in, IsReadySecondary, Second, following_in};
+ghost use Rattle.site_runner.specs.Steps.{state_text, waiting_word};
 
 use super::ending::Ended;
+use super::secondary::Secondary;
 use super::slot::Slot;
-use super::text::{write_line, write_numbered, write_open, write_reign};
+use super::text::{write_followed, write_line, write_numbered, write_open, write_reign};
 use gvn_key::{Bytes, NoMemory};
 use gvn_model::{Reign as PastReign, Stamp};
 use repl_disk::Disk;
@@ -90,6 +92,46 @@ pub fn show_failed<D: Disk>(
     let written = write_numbered(text, name.as_slice(), b"STATE FAILED ", fault);
     (
         Slot::Failed { disk, name, fault },
+        Ended::Done.after(written),
+    )
+}
+
+/// What a secondary does.
+fn word_of(waits: bool) -> &'static [u8]
+    ensures { result.now ≡ waiting_word waits }
+{
+    if waits { b"WAITING" } else { b"FOLLOWING" }
+}
+
+/// Adds the state of a secondary, its primary, its length and the reigns of its entries.
+fn write_secondary<D: Disk>(
+    secondary: &Secondary<D>,
+    name: &[u8],
+    text: &mut Bytes,
+) -> Result<(), NoMemory>
+    requires { IsGoing D.disk secondary.now.site }
+    ensures { OnOk result (text.new ≡ text.old ++ state_text name.now (Second (following_in secondary.now))) }
+{
+    let site = &secondary.site;
+    let word = word_of(secondary.waits);
+    let primary = secondary.primary.as_slice();
+    write_followed(text, name, word, primary, site.sequence_length())?;
+    write_reigns(name, site.history().reigns.as_slice(), text)
+}
+
+/// Shows a secondary.
+pub fn show_secondary<D: Disk>(
+    secondary: Box<Secondary<D>>,
+    name: Bytes,
+    text: &mut Bytes,
+) -> (Slot<D>, Result<Ended, NoMemory>)
+    requires { IsReadySecondary D.disk name secondary.value }
+    ensures ready { OnOk result.1 (IsReadySlot D.disk result.0) }
+    ensures left { Leaves D.disk (row_at rows.show) (Slot.Secondary secondary name) result text.old text.new }
+{
+    let written = write_secondary(secondary.as_ref(), name.as_slice(), text);
+    (
+        Slot::Secondary { secondary, name },
         Ended::Done.after(written),
     )
 }

@@ -7,10 +7,12 @@ ghost use Rattle.site_store.specs.Owning.{disk_of, memory_of, IsGoing};
 ghost use Rattle.site_runner.specs.Ending.{down};
 ghost use Rattle.site_runner.specs.Executes.{Leaves};
 ghost use Rattle.site_runner.specs.Sites.{IsReadySlot};
+ghost use Rattle.site_runner.specs.Linked.{FollowsUnopened};
 ghost use Rattle.site_runner.specs.Starting.{BeginsAt, LeavesUnopened};
 
 use super::answering::{damaged, fail, refuse};
 use super::cause::Cause;
+use super::closing::refuse_opened;
 use super::ending::{Ended, closed, opened};
 use super::refusing::{Needing, refuse_region};
 use super::slot::Slot;
@@ -23,7 +25,7 @@ use std::alloc::Global;
 use world_laws::leftovers::{files_stand_for_one, leftovers_hold};
 
 /// Whether the site that was opened has this name.
-fn is_named<D: Disk>(site: &Site<D>, name: &[u8]) -> bool
+pub fn is_named<D: Disk>(site: &Site<D>, name: &[u8]) -> bool
     ensures { MatchBool result ((memory_of site.now).layout.name ≡ name.now) ((memory_of site.now).layout.name ≢ name.now) }
 {
     site.layout().name.as_slice() == name
@@ -42,7 +44,6 @@ fn begin<D: Disk>(
     ensures left { BeginsAt D.disk (D.disk (disk_of site)) (memory_of site) (down name) result text.old text.new }
 {
     leftovers_hold();
-    nothing_is_left(&site);
     match site.start_reign() {
         Ok(stamp) => {
             nothing_is_left(&site);
@@ -54,10 +55,7 @@ fn begin<D: Disk>(
                 Err(failed) => closed(failed.value.site.abandon(), name, Err(NoMemory)),
             }
         }
-        Err(SiteError::ReignLimit) => {
-            let ended = refuse(text, name.as_slice(), &Cause::ReignLimit);
-            closed(site.abandon(), name, ended)
-        }
+        Err(SiteError::ReignLimit) => refuse_opened(site, name, &Cause::ReignLimit, text),
         Err(SiteError::Failed { fault }) => {
             let ended = fail(text, name.as_slice(), fault);
             closed(site.abandon(), name, ended)
@@ -67,7 +65,7 @@ fn begin<D: Disk>(
 }
 
 /// Answers that a site wasn't opened, by the error that its opening ended with.
-fn unopened<D: Disk>(
+pub fn unopened<D: Disk>(
     alloc: Global,
     mut disk: D,
     error: SiteError,
@@ -76,6 +74,7 @@ fn unopened<D: Disk>(
 ) -> (Slot<D>, Result<Ended, NoMemory>)
     ensures ready { OnOk result.1 (IsReadySlot D.disk result.0) }
     ensures left { LeavesUnopened D.disk disk error name result text.old text.new }
+    ensures followed { FollowsUnopened D.disk disk error name result text.old text.new }
 {
     leftovers_hold();
     match error {

@@ -93,6 +93,43 @@ pub fn write_open(text: &mut Bytes, name: &[u8], cycle: u32, length: u64) -> Res
     text.push_all(b"\n")
 }
 
+/// Adds the line of the state of a secondary: that word, its primary, and its length.
+pub fn write_followed(
+    text: &mut Bytes,
+    name: &[u8],
+    word: &[u8],
+    primary: &[u8],
+    length: u64,
+) -> Result<(), NoMemory>
+    ensures { OnOk result (text.new ≡ text.old ++ line name.now (codes "STATE " ++ word.now ++ 32 ∷ primary.now ++ codes " LENGTH " ++ decimal length)) }
+{
+    text.push_all(name)?;
+    text.push_all(b" STATE ")?;
+    text.push_all(word)?;
+    text.push_all(b" ")?;
+    text.push_all(primary)?;
+    text.push_all(b" LENGTH ")?;
+    text.push_decimal(length)?;
+    text.push_all(b"\n")
+}
+
+/// Adds the line of a secondary whose next entry from its primary has that number.
+pub fn write_follows(
+    text: &mut Bytes,
+    name: &[u8],
+    primary: &[u8],
+    from: u64,
+) -> Result<(), NoMemory>
+    ensures { OnOk result (text.new ≡ text.old ++ line name.now (codes "FOLLOWS " ++ primary.now ++ codes " FROM " ++ decimal from)) }
+{
+    text.push_all(name)?;
+    text.push_all(b" FOLLOWS ")?;
+    text.push_all(primary)?;
+    text.push_all(b" FROM ")?;
+    text.push_decimal(from)?;
+    text.push_all(b"\n")
+}
+
 /// Adds the line of a reign of a site's history.
 pub fn write_reign(text: &mut Bytes, name: &[u8], reign: &Reign) -> Result<(), NoMemory>
     ensures { OnOk result (text.new ≡ text.old ++ line name.now (reign_text (reign_value reign.now))) }

@@ -2,10 +2,13 @@ use Rattle.std.proofs.Common.{◌≡◌, ◌↔◌, ℕ, ◌+◌, length, count_
 use Rattle.wire_defs.specs.Links.{was_cut, past_since}
 use Rattle.ship_session.specs.declared.end.SessionEnd.TheVariants as session
 use Rattle.repl_section.specs.declared.feeding.FollowerEnd.TheVariants.{LinkCut}
-use Rattle.repl_section.specs.Becoming.{followed_on}
+use Rattle.repl_section.specs.Becoming.{followed_none, followed_on}
 use Rattle.repl_section.specs.Followers.{IsFollowing, IsFitFollower}
 use Rattle.repl_section.proofs.Closed.{no_other, fault_of, goes_if, unread_of, cut_where, cut_so, uncut_so, none_before}
 use Rattle.repl_section.proofs.feeding.feed.Goals as goal
+
+pub returns-in_err-theirs-clause-followed : goal.returns-in_err-theirs-clause-followed
+returns-in_err-theirs-clause-followed g c = followed_none g.D.Disk.disk c.args.follower.now
 
 pub returns-in-Ok-clause-followed : goal.returns-in-Ok-clause-followed
 returns-in-Ok-clause-followed g c = followed_on g.D.Disk.disk c.args.follower.now c.finish.new.site c.close.new.follower c.in-Ok.ensures.site_later c.close.ensures.later

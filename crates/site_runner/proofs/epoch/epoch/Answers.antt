@@ -1,9 +1,14 @@
-use Rattle.std.proofs.Common.{ap}
+use Rattle.std.proofs.Common.{sym, subst}
+use Rattle.std.specs.Prelude.{OnOk}
 use Rattle.world_defs.specs.rows.Epoch.{epoch}
-use Rattle.site_runner.proofs.Stopped.{opened_leaves}
+use Rattle.site_runner.specs.Sites.{IsReadySlot, IsReadyOpen}
+use Rattle.site_runner.proofs.Roles.{opened_by, reign_ready}
 use Rattle.site_runner.proofs.epoch.epoch.Goals as goal
+
+pub returns-clause-ready : goal.returns-clause-ready
+returns-clause-ready g c = subst (λ y. OnOk y (IsReadySlot g.D.Disk.disk c.opened.result.0)) (sym c.opened.ensures.ended) (c.opened.ensures.ready (reign_ready g.D.Disk.disk c.as_mut.result.now c.mark-ended.new.site c.mark-ended.result (subst (λ x. IsReadyOpen g.D.Disk.disk x) (sym c.as_mut.ensures.value) c.requires) c.mark-ended.ensures.ready))
 
 pub returns-clause-left : goal.returns-clause-left
 returns-clause-left g c =
     let e = c.opened.ensures in
-    opened_leaves g.D.Disk.disk epoch c.args.reign c.as_mut.result.now c.mark-ended.new.reign c.args.name c.as_slice.result.now _ c.opened.result c.mark-ended.result c.args.text.now c.mark-ended.new.text c.as_mut.ensures.value c.as_slice.ensures (ap g.D.Disk.disk e.disk) e.site e.ended c.mark-ended.ensures.done c.mark-ended.ensures.cut_off
+    opened_by g.D.Disk.disk epoch c.args.reign c.as_mut.result.now c.mark-ended.new.site c.args.name c.as_slice.result.now c.opened.result c.mark-ended.result c.args.text.now c.mark-ended.new.text c.as_mut.ensures.value c.as_slice.ensures e.disk e.site e.ended c.mark-ended.ensures.done c.mark-ended.ensures.cut_off

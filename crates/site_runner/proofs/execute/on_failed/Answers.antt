@@ -12,14 +12,12 @@ returns-clause-left g c =
       | inl w ↦ ap (λ (x : Command). unfit_failed c.args.fault (command_value x)) w.3
       | inr (inl w) ↦ ap (λ (x : Command). unfit_failed c.args.fault (command_value x)) w.3
       | inr (inr (inl w)) ↦ ap (λ (x : Command). unfit_failed c.args.fault (command_value x)) w.1
-      | inr (inr (inr (inl w))) ↦ ap (λ (x : Command). unfit_failed c.args.fault (command_value x)) w.3
+      | inr (inr (inr (inl w))) ↦ ap (λ (x : Command). unfit_failed c.args.fault (command_value x)) w.1
       | inr (inr (inr (inr (inl w)))) ↦ ap (λ (x : Command). unfit_failed c.args.fault (command_value x)) w.1
       | inr (inr (inr (inr (inr (inl w))))) ↦ ap (λ (x : Command). unfit_failed c.args.fault (command_value x)) w.1
-      | inr (inr (inr (inr (inr (inr (inl w)))))) ↦ ap (λ (x : Command). unfit_failed c.args.fault (command_value x)) w.2
-      | inr (inr (inr (inr (inr (inr (inr (inl w))))))) ↦ ap (λ (x : Command). unfit_failed c.args.fault (command_value x)) w.1
-      | inr (inr (inr (inr (inr (inr (inr (inr (inl w)))))))) ↦ ap (λ (x : Command). unfit_failed c.args.fault (command_value x)) w.1
+      | inr (inr (inr (inr (inr (inr (inl w)))))) ↦ ap (λ (x : Command). unfit_failed c.args.fault (command_value x)) w.1
+      | inr (inr (inr (inr (inr (inr (inr (inl w))))))) ↦ ap (λ (x : Command). unfit_failed c.args.fault (command_value x)) w.2
+      | inr (inr (inr (inr (inr (inr (inr (inr (inl w)))))))) ↦ ap (λ (x : Command). unfit_failed c.args.fault (command_value x)) w.2
       | inr (inr (inr (inr (inr (inr (inr (inr (inr (inl w))))))))) ↦ ap (λ (x : Command). unfit_failed c.args.fault (command_value x)) w.2
-      | inr (inr (inr (inr (inr (inr (inr (inr (inr (inr (inl w)))))))))) ↦ ap (λ (x : Command). unfit_failed c.args.fault (command_value x)) w.2
-      | inr (inr (inr (inr (inr (inr (inr (inr (inr (inr (inr (inl w))))))))))) ↦ ap (λ (x : Command). unfit_failed c.args.fault (command_value x)) w.2
-      | inr (inr (inr (inr (inr (inr (inr (inr (inr (inr (inr (inr w))))))))))) ↦ ap (λ (x : Command). unfit_failed c.args.fault (command_value x)) w.3
+      | inr (inr (inr (inr (inr (inr (inr (inr (inr (inr w))))))))) ↦ ap (λ (x : Command). unfit_failed c.args.fault (command_value x)) w.3
     ]) c.as_slice.ensures c.refuse-ended.ensures

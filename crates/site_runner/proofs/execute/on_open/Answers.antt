@@ -7,12 +7,11 @@ use Rattle.site_runner.proofs.execute.on_open.Goals as goal
 
 pub returns-clause-left : goal.returns-clause-left
 returns-clause-left g c =
-    refused_open g.D.Disk.disk (command_value c.args.command) Running c.args.reign c.args.name c.as_slice-in-Map.result.now c.refuse-ended.result c.args.text.now c.refuse-ended.new.text
+    refused_open g.D.Disk.disk (command_value c.args.command) Running c.args.reign c.args.name c.as_slice.result.now c.refuse-ended.result c.args.text.now c.refuse-ended.new.text
     (elim c.in-Map.is [
       | inl w ↦ ap (λ (x : Command). unfit_open (command_value x)) w.3
       | inr (inl w) ↦ ap (λ (x : Command). unfit_open (command_value x)) w.3
       | inr (inr (inl w)) ↦ ap (λ (x : Command). unfit_open (command_value x)) w.1
-      | inr (inr (inr (inl w))) ↦ ap (λ (x : Command). unfit_open (command_value x)) w.2
-      | inr (inr (inr (inr (inl w)))) ↦ ap (λ (x : Command). unfit_open (command_value x)) w.1
-      | inr (inr (inr (inr (inr w)))) ↦ ap (λ (x : Command). unfit_open (command_value x)) w.1
-    ]) c.as_slice-in-Map.ensures c.refuse-ended.ensures
+      | inr (inr (inr (inl w))) ↦ ap (λ (x : Command). unfit_open (command_value x)) w.1
+      | inr (inr (inr (inr w))) ↦ ap (λ (x : Command). unfit_open (command_value x)) w.1
+    ]) c.as_slice.ensures c.refuse-ended.ensures

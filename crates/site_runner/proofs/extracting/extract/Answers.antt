@@ -1,9 +1,14 @@
-use Rattle.std.proofs.Common.{ap}
+use Rattle.std.proofs.Common.{sym, subst}
+use Rattle.std.specs.Prelude.{OnOk}
 use Rattle.world_defs.specs.rows.Extract.{extract}
-use Rattle.site_runner.proofs.Stopped.{opened_leaves}
+use Rattle.site_runner.specs.Sites.{IsReadySlot, IsReadyOpen}
+use Rattle.site_runner.proofs.Roles.{opened_by, reign_ready}
 use Rattle.site_runner.proofs.extracting.extract.Goals as goal
+
+pub returns-clause-ready : goal.returns-clause-ready
+returns-clause-ready g c = subst (λ y. OnOk y (IsReadySlot g.D.Disk.disk c.opened.result.0)) (sym c.opened.ensures.ended) (c.opened.ensures.ready (reign_ready g.D.Disk.disk c.as_mut.result.now c.extract_site-ended.new.site c.extract_site-ended.result (subst (λ x. IsReadyOpen g.D.Disk.disk x) (sym c.as_mut.ensures.value) c.requires.ready) c.extract_site-ended.ensures.ready))
 
 pub returns-clause-left : goal.returns-clause-left
 returns-clause-left g c =
     let e = c.opened.ensures in
-    opened_leaves g.D.Disk.disk (extract c.args.number) c.args.reign c.as_mut.result.now c.extract_open-ended.new.reign c.args.name c.as_slice.result.now _ c.opened.result c.extract_open-ended.result c.args.text.now c.extract_open-ended.new.text c.as_mut.ensures.value c.as_slice.ensures (ap g.D.Disk.disk e.disk) e.site e.ended c.extract_open-ended.ensures.done c.extract_open-ended.ensures.cut_off
+    opened_by g.D.Disk.disk (extract c.args.number) c.args.reign c.as_mut.result.now c.extract_site-ended.new.site c.args.name c.as_slice.result.now c.opened.result c.extract_site-ended.result c.args.text.now c.extract_site-ended.new.text c.as_mut.ensures.value c.as_slice.ensures e.disk e.site e.ended c.extract_site-ended.ensures.done c.extract_site-ended.ensures.cut_off

@@ -1,13 +1,20 @@
-use Rattle.std.proofs.Common.{ap}
+use Rattle.std.proofs.Common.{sym, subst}
+use Rattle.std.specs.Prelude.{OnOk}
 use Rattle.world_defs.specs.rows.Fuse.{fuse}
 use Rattle.site_store.specs.Owning.{disk_of}
-use Rattle.site_runner.specs.Ending.{primary}
-use Rattle.site_runner.proofs.Stopped.{opened_leaves, cut_unless}
+use Rattle.site_runner.specs.Ending.{open_as}
+use Rattle.site_runner.specs.Sites.{IsReadySlot, IsReadyOpen}
+use Rattle.site_runner.proofs.Roles.{opened_by, reign_ready}
+use Rattle.site_runner.proofs.Stopped.{cut_unless}
 use Rattle.site_runner.proofs.fusing.fuse_open.Goals as goal
+
+pub returns-clause-ready : goal.returns-clause-ready
+returns-clause-ready g c = subst (λ y. OnOk y (IsReadySlot g.D.Disk.disk c.opened.result.0)) (sym c.opened.ensures.ended) (c.opened.ensures.ready (reign_ready g.D.Disk.disk c.as_mut.result.now c.fuse_site-ended.new.site c.fuse_site-ended.result (subst (λ x. IsReadyOpen g.D.Disk.disk x) (sym c.as_mut.ensures.value) c.requires) c.fuse_site-ended.ensures.ready))
 
 pub returns-clause-left : goal.returns-clause-left
 returns-clause-left g c =
     let e = c.opened.ensures in
     let n = c.as_slice.result.now in
-    opened_leaves g.D.Disk.disk (fuse c.args.calls) c.args.reign c.as_mut.result.now c.fuse_site-ended.new.reign c.args.name n _ c.opened.result c.fuse_site-ended.result c.args.text.now c.fuse_site-ended.new.text c.as_mut.ensures.value c.as_slice.ensures (ap g.D.Disk.disk e.disk) e.site e.ended c.fuse_site-ended.ensures.done
-    (cut_unless (λ r. g.D.Disk.disk (disk_of r.site)) c.fuse_site-ended.result (fuse c.args.calls n) c.as_mut.result.now c.fuse_site-ended.new.reign (primary n c.as_mut.result.now) c.fuse_site-ended.ensures.kept)
+    let was = c.as_mut.result.now in
+    opened_by g.D.Disk.disk (fuse c.args.calls) c.args.reign was c.fuse_site-ended.new.site c.args.name n c.opened.result c.fuse_site-ended.result c.args.text.now c.fuse_site-ended.new.text c.as_mut.ensures.value c.as_slice.ensures e.disk e.site e.ended c.fuse_site-ended.ensures.done
+    (λ role. cut_unless (λ s. g.D.Disk.disk (disk_of s)) c.fuse_site-ended.result (fuse c.args.calls n) was.site c.fuse_site-ended.new.site (open_as role n was.site) c.fuse_site-ended.ensures.kept)

@@ -52,7 +52,7 @@ returns-in-Err-NeedForward-clause-done g c =
     (if_some w.content (λ files. HaveFirstWithout files c.in-Err-NeedForward.region) (NeedsForward ToRecover Opening c.in-Err-NeedForward.region) (λ f k. (k.0, k.1, k.2, k.3, k.4, k.5, k.6, tt)) (subst (λ (o : Option Files). IfSome o (λ files. HaveFirstWithout files c.in-Err-NeedForward.region)) (sym kept.0) (e.needs c.in-Err-NeedForward.region is))))
     (λ done r.
     subst (λ (b : Bool). ExecutesAt (rows.recover b s.name) (g.D.Disk.disk c.args.disk.now) s (g.D.Disk.disk c.refuse_region.new.disk) (down_after c.args.name.now done) c.args.text.now c.refuse_region.new.text (is_done_at done)) (sym (e.backward c.in-Err-NeedForward.region is))
-    (refuses_so ToRecover (g.D.Disk.disk c.args.disk.now) w (g.D.Disk.disk c.refuse_region.new.disk) s (down_after c.args.name.now done) c.args.text.now c.refuse_region.new.text (is_done_at done) (g.met.D.Disk.lawful c.recover_on.new.disk) refl kept.0 kept.1 e.simulated e.faults.later r))
+    (refuses_so ToRecover Opening (g.D.Disk.disk c.args.disk.now) w (g.D.Disk.disk c.refuse_region.new.disk) s (down_after c.args.name.now done) c.args.text.now c.refuse_region.new.text (is_done_at done) (λ p. tt) (g.met.D.Disk.lawful c.recover_on.new.disk) refl kept.0 kept.1 e.simulated e.faults.later r))
 
 pub returns-in-Err-NeedForward-clause-cut_off : goal.returns-in-Err-NeedForward-clause-cut_off
 returns-in-Err-NeedForward-clause-cut_off g c =

@@ -28,7 +28,7 @@ pub returns-in-Ok-None-clause-done : goal.returns-in-Ok-None-clause-done
 returns-in-Ok-None-clause-done g c command asked needs =
     let e = c.in-Ok-None.ensures in
     on_not_done c.damaged.result _ _ c.damaged.ensures (λ t.
-    find_damaged command (g.D.Disk.disk c.args.disk.now) (g.D.Disk.disk c.find.new.disk) (down c.args.name.now) 0 0 c.args.text.now _ (g.met.D.Disk.lawful c.find.new.disk) e.content e.untouched e.simulated e.faults.later
+    find_damaged command c.args.needing (g.D.Disk.disk c.args.disk.now) (g.D.Disk.disk c.find.new.disk) (down c.args.name.now) 0 0 c.args.text.now _ (g.met.D.Disk.lawful c.find.new.disk) e.content e.untouched e.simulated e.faults.later
     (none_found (g.D.Disk.disk c.args.disk.now).content (layout_in c.in-Ok-None.field-0) (ap layout_in c.in-Ok-None.field-0-is) e.found)
     (blank_there (g.D.Disk.disk c.args.disk.now).content (g.D.Disk.disk c.find.new.disk).content e.content (e.empty (ap Ok c.in-Ok-None.field-0-is))) (named _ _ refl t))
 
@@ -43,8 +43,8 @@ returns-in-Err-Failed-clause-done g c command asked needs =
     let is = ap Err c.in-Err-Failed.field-0-is in
     let s = (down c.args.name.now) in
     let w = g.D.Disk.disk c.find.new.disk in
-    on_failed c.fail.result _ _ (λ (x : Ended). RefusesAt command (g.D.Disk.disk c.args.disk.now) s w (down_after c.args.name.now x) c.args.text.now c.fail.new.text (is_done_at x)) c.fail.ensures (λ t.
-    find_fault c.leftovers_hold.ensures command (g.D.Disk.disk c.args.disk.now) w s _ c.args.text.now _ (g.met.D.Disk.lawful c.find.new.disk) e.content e.untouched e.simulated e.faults.later
+    on_failed c.fail.result _ _ (λ (x : Ended). RefusesAt command c.args.needing (g.D.Disk.disk c.args.disk.now) s w (down_after c.args.name.now x) c.args.text.now c.fail.new.text (is_done_at x)) c.fail.ensures (λ t.
+    find_fault c.leftovers_hold.ensures command c.args.needing (g.D.Disk.disk c.args.disk.now) w s _ c.args.text.now _ (g.met.D.Disk.lawful c.find.new.disk) e.content e.untouched e.simulated e.faults.later
     (c.in-Err-Failed.fault-is ∙ e.faults.count c.in-Err-Failed.fault is) (e.faults.cause c.in-Err-Failed.fault is) t)
 
 pub returns-in-Err-Failed-clause-cut_off : goal.returns-in-Err-Failed-clause-cut_off
@@ -58,7 +58,7 @@ returns-in-Err-NotAFile-clause-done g c command asked needs =
     let file = c.in-Err-NotAFile.file in
     let offset = c.in-Err-NotAFile.offset in
     on_not_done c.damaged-in-Err-NotAFile.result _ _ c.damaged-in-Err-NotAFile.ensures (λ t.
-    find_damaged command (g.D.Disk.disk c.args.disk.now) (g.D.Disk.disk c.find.new.disk) (down c.args.name.now) file offset c.args.text.now _ (g.met.D.Disk.lawful c.find.new.disk) e.content e.untouched e.simulated e.faults.later
+    find_damaged command c.args.needing (g.D.Disk.disk c.args.disk.now) (g.D.Disk.disk c.find.new.disk) (down c.args.name.now) file offset c.args.text.now _ (g.met.D.Disk.lawful c.find.new.disk) e.content e.untouched e.simulated e.faults.later
     (nothing_there (g.D.Disk.disk c.args.disk.now).content (e.outside file offset (ap Err c.in-Err-NotAFile.field-0-is))) (e.place file offset (ap Err c.in-Err-NotAFile.field-0-is))
     (not_a_file _ c.in-Err-NotAFile.file-is c.in-Err-NotAFile.offset-is refl t))
 

@@ -1,104 +1,54 @@
-use Rattle.std.proofs.Common.{◌-◌, ◌<◌, min, length, Option, IfSome, refl, ◌∙◌, ap, subst, sym, Err}
-use Rattle.disk_defs.specs.Disk.{Files}
-use Rattle.global_defs.specs.Entry.{Sequence}
-use Rattle.journal_defs.specs.Instance.{generation}
-use Rattle.journal_defs.specs.Sequence.{Records, IsSequence}
-use Rattle.journal_defs.specs.Stands.{AreRecords}
-use Rattle.site_store.specs.Needing.{IsFirstWithout}
-use Rattle.site_runner.specs.Refusing.{ToRollBack, NeedsForward}
-use Rattle.site_runner.specs.declared.refusing.Needing.TheVariants.{Rollback}
-use Rattle.world_defs.specs.rows.Rollback as rows
-use Rattle.site_runner.specs.Steps.{ExecutesAt}
-use Rattle.site_runner.proofs.Ats.{on_not_done, on_failed}
-use Rattle.site_runner.proofs.Results.{err_holds, on_err_of}
-use Rattle.site_runner.proofs.Written.{named, not_a_file}
-use Rattle.site_runner.proofs.Rolled.{rollback_cut, rollback_fault, rollback_limit, rollback_damaged, rollback_done}
-use Rattle.site_runner.proofs.Refused.{refuses_so, cut_down_so}
-use Rattle.site_runner.specs.Ending.{down, down_after, is_done_at}
-use Rattle.site_runner.specs.declared.ending.Ended.{Ended}
+use Rattle.site_runner.proofs.RolledSo.{Answered, Tells, told_cut, told_done}
 use Rattle.site_runner.proofs.rolling.roll_down.Goals as goal
-use Rattle.repl_section.proofs.Results.{if_ok as on_done}
-use Rattle.site_store.proofs.Unwritten.{some_read as if_some}
 
-pub returns-in_ok-write_rolled-in-Ok-clause-done : goal.returns-in_ok-write_rolled-in-Ok-clause-done
-returns-in_ok-write_rolled-in-Ok-clause-done g c =
-    let e = c.in-Ok.ensures in
-    rollback_done c.args.number (g.D.Disk.disk c.args.disk.now) (g.D.Disk.disk c.rollback.new.disk) (down c.args.name.now) c.in-Ok.rolled.kept c.in-Ok.rolled.lost c.args.text.now _ refl e.read e.told e.held e.simulated e.faults.later (named _ _ refl c.in_ok-write_rolled-in-Ok.ensures)
+pub returns-clause-done : goal.returns-clause-done
+returns-clause-done g c =
+    let e = c.rollback-rolled.ensures in
+    let t = c.tell_rolled.ensures in
+    told_done g.D.Disk.disk c.leftovers_hold.ensures c.args.number (g.D.Disk.disk c.args.disk.now) c.rollback-rolled.new.disk c.tell_rolled.new.disk c.args.name.now c.tell_rolled.result c.args.text.now c.tell_rolled.new.text (g.met.D.Disk.lawful c.rollback-rolled.new.disk) c.rollback-rolled.result
+    (record {
+      read = e.read;
+      told = e.told;
+      held = e.held;
+      limit = e.limit;
+      limit_told = e.limit_told;
+      unwritten = e.unwritten;
+      without = e.without;
+      untouched = e.untouched;
+      no_forward = e.no_forward;
+      place = e.place;
+      refused = e.refused;
+      outside = e.outside;
+      any_moment = e.any_moment;
+      left = e.left;
+      still_told = e.still_told;
+      simulated = e.simulated;
+      faults = e.faults;
+    })
+    (record { done = t.done; limit = t.limit; fault = t.fault; damage = t.damage; region = t.region; cut_off = t.cut_off; disk = t.disk; memory = t.memory })
 
-pub returns-in_err-write_rolled-in-Ok-clause-cut_off : goal.returns-in_err-write_rolled-in-Ok-clause-cut_off
-returns-in_err-write_rolled-in-Ok-clause-cut_off g c =
-    let e = c.in-Ok.ensures in
-    err_holds c.from_residual.result _ (rollback_cut c.leftovers_hold.ensures c.args.number (g.D.Disk.disk c.args.disk.now) (g.D.Disk.disk c.rollback.new.disk) (down c.args.name.now) (g.met.D.Disk.lawful c.rollback.new.disk) refl e.any_moment e.left e.still_told e.simulated e.faults.later)
-
-pub returns-in-Err-GenLimit-clause-done : goal.returns-in-Err-GenLimit-clause-done
-returns-in-Err-GenLimit-clause-done g c =
-    let e = c.in-Err-GenLimit.ensures in
-    let is = ap Err c.in-Err-GenLimit.field-0-is in
-    let kept = e.unwritten is in
-    on_not_done c.refuse.result _ _ c.refuse.ensures (λ t.
-    rollback_limit c.args.number (g.D.Disk.disk c.args.disk.now) (g.D.Disk.disk c.rollback.new.disk) (down c.args.name.now) c.args.text.now _ (g.met.D.Disk.lawful c.rollback.new.disk) refl (e.limit is) (e.limit_told is) kept.0 kept.1 e.simulated e.faults.later
-    (named _ _ refl t))
-
-pub returns-in-Err-GenLimit-clause-cut_off : goal.returns-in-Err-GenLimit-clause-cut_off
-returns-in-Err-GenLimit-clause-cut_off g c =
-    let e = c.in-Err-GenLimit.ensures in
-    err_holds c.refuse.result _ (rollback_cut c.leftovers_hold.ensures c.args.number (g.D.Disk.disk c.args.disk.now) (g.D.Disk.disk c.rollback.new.disk) (down c.args.name.now) (g.met.D.Disk.lawful c.rollback.new.disk) refl e.any_moment e.left e.still_told e.simulated e.faults.later)
-
-pub returns-in-Err-Failed-clause-done : goal.returns-in-Err-Failed-clause-done
-returns-in-Err-Failed-clause-done g c =
-    let e = c.in-Err-Failed.ensures in
-    let is = ap Err c.in-Err-Failed.field-0-is in
-    let s = (down c.args.name.now) in
-    let w = g.D.Disk.disk c.rollback.new.disk in
-    on_failed c.fail.result _ _ (λ (x : Ended). ExecutesAt (rows.rollback c.args.number s.name) (g.D.Disk.disk c.args.disk.now) s w (down_after c.args.name.now x) c.args.text.now c.fail.new.text (is_done_at x)) c.fail.ensures (λ t.
-    rollback_fault c.leftovers_hold.ensures c.args.number (g.D.Disk.disk c.args.disk.now) w s _ c.args.text.now _ (g.met.D.Disk.lawful c.rollback.new.disk) refl e.any_moment e.left e.still_told e.simulated
-    (c.in-Err-Failed.fault-is ∙ e.faults.count c.in-Err-Failed.fault is) (e.faults.cause c.in-Err-Failed.fault is) t)
-
-pub returns-in-Err-Failed-clause-cut_off : goal.returns-in-Err-Failed-clause-cut_off
-returns-in-Err-Failed-clause-cut_off g c =
-    let e = c.in-Err-Failed.ensures in
-    err_holds c.fail.result _ (rollback_cut c.leftovers_hold.ensures c.args.number (g.D.Disk.disk c.args.disk.now) (g.D.Disk.disk c.rollback.new.disk) (down c.args.name.now) (g.met.D.Disk.lawful c.rollback.new.disk) refl e.any_moment e.left e.still_told e.simulated e.faults.later)
-
-pub returns-in-Err-NotAFile-clause-done : goal.returns-in-Err-NotAFile-clause-done
-returns-in-Err-NotAFile-clause-done g c =
-    let e = c.in-Err-NotAFile.ensures in
-    let file = c.in-Err-NotAFile.file in
-    let offset = c.in-Err-NotAFile.offset in
-    on_not_done c.damaged.result _ _ c.damaged.ensures (λ t.
-    rollback_damaged c.args.number (g.D.Disk.disk c.args.disk.now) (g.D.Disk.disk c.rollback.new.disk) (down c.args.name.now) file offset c.args.text.now _ refl (e.outside file offset (ap Err c.in-Err-NotAFile.field-0-is)) (e.place file offset (ap Err c.in-Err-NotAFile.field-0-is))
-    (if_some (g.D.Disk.disk c.args.disk.now).content _ _ (λ _ k. k.0) (e.refused file offset (ap Err c.in-Err-NotAFile.field-0-is))) e.simulated e.faults.later
-    (not_a_file _ c.in-Err-NotAFile.file-is c.in-Err-NotAFile.offset-is refl t))
-
-pub returns-in-Err-NotAFile-clause-cut_off : goal.returns-in-Err-NotAFile-clause-cut_off
-returns-in-Err-NotAFile-clause-cut_off g c =
-    let e = c.in-Err-NotAFile.ensures in
-    err_holds c.damaged.result _ (rollback_cut c.leftovers_hold.ensures c.args.number (g.D.Disk.disk c.args.disk.now) (g.D.Disk.disk c.rollback.new.disk) (down c.args.name.now) (g.met.D.Disk.lawful c.rollback.new.disk) refl e.any_moment e.left e.still_told e.simulated e.faults.later)
-
-pub returns-in-Err-NoBeforeImage-clause-done : goal.returns-in-Err-NoBeforeImage-clause-done
-returns-in-Err-NoBeforeImage-clause-done g c =
-    let e = c.in-Err-NoBeforeImage.ensures in
-    let is = ap Err c.in-Err-NoBeforeImage.field-0-is in
-    let kept = e.untouched c.in-Err-NoBeforeImage.region c.in-Err-NoBeforeImage.generation is in
-    let number = c.args.number in
-    let w = g.D.Disk.disk c.rollback.new.disk in
-    on_done c.refuse_region.result _ _
-    (c.refuse_region.ensures.done (ToRollBack number) tt
-    (if_some w.content (λ files. (u : Records) × (seq : Sequence) × AreRecords files u × IsSequence u seq × (generation u.instance < 65534) × IsFirstWithout u (min (number - 1) (length seq)) c.in-Err-NoBeforeImage.region c.in-Err-NoBeforeImage.generation) (NeedsForward (ToRollBack number) (Rollback c.in-Err-NoBeforeImage.generation) c.in-Err-NoBeforeImage.region) (λ f k. (k.0, k.1, k.2, k.3, k.4, c.in-Err-NoBeforeImage.generation, k.5, refl))
-    (subst (λ (o : Option Files). IfSome o (λ files. (u : Records) × (seq : Sequence) × AreRecords files u × IsSequence u seq × (generation u.instance < 65534) × IsFirstWithout u (min (number - 1) (length seq)) c.in-Err-NoBeforeImage.region c.in-Err-NoBeforeImage.generation)) (sym kept.0) (e.without c.in-Err-NoBeforeImage.region c.in-Err-NoBeforeImage.generation is))))
-    (λ done r.
-    refuses_so (ToRollBack number) (g.D.Disk.disk c.args.disk.now) w (g.D.Disk.disk c.refuse_region.new.disk) (down c.args.name.now) (down_after c.args.name.now done) c.args.text.now c.refuse_region.new.text (is_done_at done) (g.met.D.Disk.lawful c.rollback.new.disk) refl kept.0 kept.1 e.simulated e.faults.later r)
-
-pub returns-in-Err-NoBeforeImage-clause-cut_off : goal.returns-in-Err-NoBeforeImage-clause-cut_off
-returns-in-Err-NoBeforeImage-clause-cut_off g c =
-    let e = c.in-Err-NoBeforeImage.ensures in
-    let is = ap Err c.in-Err-NoBeforeImage.field-0-is in
-    let kept = e.untouched c.in-Err-NoBeforeImage.region c.in-Err-NoBeforeImage.generation is in
-    let number = c.args.number in
-    let w = g.D.Disk.disk c.rollback.new.disk in
-    on_err_of c.refuse_region.result _ _ (c.refuse_region.ensures.cut_off (ToRollBack number))
-    (λ r. cut_down_so (ToRollBack number) (g.D.Disk.disk c.args.disk.now) w (g.D.Disk.disk c.refuse_region.new.disk) (down c.args.name.now) (g.met.D.Disk.lawful c.rollback.new.disk) refl kept.0 kept.1 e.simulated e.faults.later r)
-
-pub returns-in-Err-NoMemory : goal.returns-in-Err-NoMemory
-returns-in-Err-NoMemory g c =
-    let e = c.in-Err-NoMemory.ensures in
-    record { done = tt; cut_off = rollback_cut c.leftovers_hold.ensures c.args.number (g.D.Disk.disk c.args.disk.now) (g.D.Disk.disk c.rollback.new.disk) (down c.args.name.now) (g.met.D.Disk.lawful c.rollback.new.disk) refl e.any_moment e.left e.still_told e.simulated e.faults.later }
+pub returns-clause-cut_off : goal.returns-clause-cut_off
+returns-clause-cut_off g c =
+    let e = c.rollback-rolled.ensures in
+    let t = c.tell_rolled.ensures in
+    told_cut g.D.Disk.disk c.leftovers_hold.ensures c.args.number (g.D.Disk.disk c.args.disk.now) c.rollback-rolled.new.disk c.tell_rolled.new.disk c.args.name.now c.tell_rolled.result c.args.text.now c.tell_rolled.new.text (g.met.D.Disk.lawful c.rollback-rolled.new.disk) c.rollback-rolled.result
+    (record {
+      read = e.read;
+      told = e.told;
+      held = e.held;
+      limit = e.limit;
+      limit_told = e.limit_told;
+      unwritten = e.unwritten;
+      without = e.without;
+      untouched = e.untouched;
+      no_forward = e.no_forward;
+      place = e.place;
+      refused = e.refused;
+      outside = e.outside;
+      any_moment = e.any_moment;
+      left = e.left;
+      still_told = e.still_told;
+      simulated = e.simulated;
+      faults = e.faults;
+    })
+    (record { done = t.done; limit = t.limit; fault = t.fault; damage = t.damage; region = t.region; cut_off = t.cut_off; disk = t.disk; memory = t.memory })

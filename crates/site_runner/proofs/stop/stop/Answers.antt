@@ -1,46 +1,18 @@
-use Rattle.std.proofs.Common.{length, refl, ◌∙◌, ap, subst}
-use Rattle.std.specs.Prelude.{codes}
+use Rattle.std.proofs.Common.{Some, ap, sym, subst}
 use Rattle.world_defs.specs.rows.Stop.{stop}
-use Rattle.world_defs.specs.Meaning.{row_at}
 use Rattle.repl_section.specs.declared.reign.Reign as code
-use Rattle.site_store.specs.Owning.{disk_of}
-use Rattle.site_runner.specs.declared.ending.Ended.{Ended}
+use Rattle.site_store.specs.Owning.{IsGoing, disk_of}
 use Rattle.site_runner.specs.declared.slot.Slot.TheVariants as slots
-use Rattle.site_runner.specs.Executes.{Leaves}
-use Rattle.site_runner.specs.Ending.{primary, down_after, failed, is_done_at}
-use Rattle.site_runner.specs.Sites.{reign_in}
-use Rattle.site_runner.specs.Steps.{ExecutesAt}
-use Rattle.site_runner.proofs.Results.{err_holds, ok_then}
-use Rattle.site_runner.proofs.Stopped.{leaves_so}
-use Rattle.site_runner.proofs.Written.{named}
-use Rattle.site_runner.proofs.Marked.{Moments, mark_cut, mark_faulted, stops_at, stops, told_so}
+use Rattle.site_runner.specs.Ending.{Reigns, open_as, primary}
+use Rattle.site_runner.proofs.Stopped.{leaves_from}
 use Rattle.site_runner.proofs.stop.stop.Goals as goal
+
+pub stop_site-requires : goal.stop_site-requires
+stop_site-requires g c = subst (λ (r : code.Reign g.row.D.Denot). IsGoing g.D.Disk.disk r.site) (sym c.into_inner.ensures) c.requires.going
 
 pub returns-clause-left : goal.returns-clause-left
 returns-clause-left g c =
-    let was = c.into_inner-reign.result in
-    let is = c.into_inner-reign.ensures in
-    let e = c.close-disk.ensures in
-    let t = c.tell_epoch-ended.ensures in
-    let k = c.closed.ensures in
-    let name = c.args.name in
-    let v = g.D.Disk.disk (disk_of was.site) in
-    let w = g.D.Disk.disk c.close-disk.result.0 in
-    let goes = ap (λ (o : code.Reign g.row.D.Denot). o.site.fault) is ∙ c.requires.going.fault in
-    let s = primary name was in
-    let r = reign_in was in
-    let moments : Moments v w r.site = record { lawful = g.met.D.Disk.lawful c.close-disk.result.0; left = λ x k. e.marks x (record { fault = goes; inner = k }); still_told = e.still_told; simulated = e.simulated; later = e.faults.later } in
-    subst (λ (o : code.Reign g.row.D.Denot). Leaves g.D.Disk.disk (row_at stop) (slots.Open (record c.args.reign { value = o }) name) c.closed.result c.args.text.now c.tell_epoch-ended.new.text) is
-    (leaves_so g.D.Disk.disk stop (slots.Open (record c.args.reign { value = was }) name) w s (down_after name) c.closed.result c.tell_epoch-ended.result c.args.text.now c.tell_epoch-ended.new.text refl (ap g.D.Disk.disk k.disk) k.site k.ended
-    (told_so c.close-disk.result.1 c.tell_epoch-ended.result _ _ (λ (x : Ended). ExecutesAt (stop name) v s w (down_after name x) c.args.text.now c.tell_epoch-ended.new.text (is_done_at x)) t.done t.failed
-    (λ u is line.
-    stops_at v w s r c.sequence_length-length.result c.args.text.now _ (g.met.D.Disk.lawful c.close-disk.result.0) refl e.still_told e.simulated e.faults.later
-    (λ x k f i. record {
-      site = ok_then c.close-disk.result.1 u _ is e.images x (length x.sequence) (record { fault = goes; inner = k }) f i;
-      left = ok_then c.close-disk.result.1 u _ is e.nothing_left x (length x.sequence) (record { fault = goes; inner = k }) f i;
-    })
-    (λ x k. ok_then c.close-disk.result.1 u _ is e.none_needs x (length x.sequence) (record { fault = goes; inner = k })) c.sequence_length-length.ensures (named _ _ c.as_slice.ensures line))
-    (λ n is line.
-    stops v w s (failed name n) c.args.text.now _
-    (mark_faulted c.leftovers_hold.ensures (codes "DOWN ") v w s r n c.args.text.now _ (g.met.D.Disk.lawful (disk_of was.site)) refl moments (e.faults.count n is) (e.faults.cause n is) (named _ _ c.as_slice.ensures line))))
-    (err_holds c.tell_epoch-ended.result _ (mark_cut c.leftovers_hold.ensures (codes "DOWN ") v w s r (g.met.D.Disk.lawful (disk_of was.site)) refl moments)))
+    let was = c.into_inner.result in
+    let role = Reigns was.serials in
+    leaves_from g.D.Disk.disk stop (slots.Open c.args.reign c.args.name) (g.D.Disk.disk (disk_of was.site)) (open_as role c.args.name was.site) c.stop_site.result c.args.text.now c.stop_site.new.text
+    (ap (λ (r : code.Reign g.row.D.Denot). Some (primary c.args.name r)) (sym c.into_inner.ensures)) (ap (λ (r : code.Reign g.row.D.Denot). g.D.Disk.disk (disk_of r.site)) (sym c.into_inner.ensures)) (c.stop_site.ensures.left role)

@@ -18,9 +18,9 @@ returns-clause-meaning g c =
     let ran = c.run_lines.ensures in
     let o = g.S.Source.left c.args.script.now in
     let n = g.S.Source.left c.run_lines.new.script in
-    subst (λ (x : Option (List ℕ)). Meaning g.D.Disk.disk c.args.slots.now.items c.run_lines.new.slots.items c.run_lines.result x n (g.K.Sink.written c.args.out.now) (g.K.Sink.written c.run_lines.new.out))
+    subst (λ (x : Option (List ℕ)). Meaning g.D.Disk.disk (g.L.Linker.links c.args.links.now) (g.L.Linker.links c.run_lines.new.links) c.args.slots.now.items c.run_lines.new.slots.items c.run_lines.result x n (g.K.Sink.written c.args.out.now) (g.K.Sink.written c.run_lines.new.out))
     (unread c.new-ahead.result.bytes o c.new-ahead.ensures.bytes)
-    (meant_behind g.D.Disk.disk _ _ c.run_lines.result _ c.run_lines.new.ahead.bytes n _ _ ran.emptied ran.words ran.meaning)
+    (meant_behind g.D.Disk.disk _ _ _ _ c.run_lines.result _ c.run_lines.new.ahead.bytes n _ _ ran.emptied ran.words ran.meaning)
 
 pub returns-clause-script : goal.returns-clause-script
 returns-clause-script g c h =

@@ -4,11 +4,10 @@ use Rattle.repl_section.specs.declared.reign.Reign as code
 use Rattle.site_runner.specs.Executes.{Leaves}
 use Rattle.std.specs.Option.{option_copied}
 use Rattle.world_defs.specs.rows.Zwrite as rows
-use Rattle.site_store.specs.Owning.{disk_of}
+use Rattle.site_store.specs.Owning.{disk_of, memory_of}
 use Rattle.site_runner.specs.declared.slot.Slot.TheVariants as slots
 use Rattle.site_runner.specs.declared.ending.Ended.TheVariants as ends
 use Rattle.site_runner.specs.Ending.{primary}
-use Rattle.site_runner.specs.Sites.{reign_in}
 use Rattle.site_runner.proofs.Results.{err_holds}
 use Rattle.site_runner.proofs.Stopped.{zwrites_at, cut_same}
 use Rattle.site_runner.proofs.Endings.{written_leaves}
@@ -25,4 +24,4 @@ returns-clause-left g c =
     let top = option_copied c.args.top in
     subst (λ (o : code.Reign g.row.D.Denot). Leaves view (row_at (rows.zwrite top)) (at o) (at o, c.after.result) c.args.text.now c.zwrite-written.new.out) c.deref.ensures
     (written_leaves view (rows.zwrite top) (at r) (at r) s s v c.zwrite-written.result c.after.result ends.Done c.args.text.now _ refl refl refl c.after.ensures.written c.after.ensures.unwritten
-    (on_ok c.zwrite-written.result _ _ c.zwrite-written.ensures.lines (zwrites_at v s (reign_in r) top c.args.text.now _ refl)) (err_holds c.zwrite-written.result _ (cut_same (rows.zwrite top c.args.name) v s)))
+    (on_ok c.zwrite-written.result _ _ c.zwrite-written.ensures.lines (zwrites_at v s (memory_of r.site) top c.args.text.now _ refl)) (err_holds c.zwrite-written.result _ (cut_same (rows.zwrite top c.args.name) v s)))

@@ -5,7 +5,7 @@ use Rattle.journal_defs.specs.Surviving.{reigns}
 use Rattle.site_store.specs.Owning.{disk_of, memory_of}
 use Rattle.site_store.specs.Site.{count_of}
 use Rattle.repl_section.specs.Followers.{HasFollowed}
-use Rattle.repl_section.specs.Becoming.{followed_none}
+use Rattle.repl_section.specs.Becoming.{followed_none, opens_same}
 use Rattle.site_store.specs.declared.memory.Memory.{Memory}
 use Rattle.repl_section.specs.declared.follower.Follower.{Follower}
 use Rattle.global_defs.specs.Entry.{Reign}
@@ -43,4 +43,5 @@ returns-in-Ok-clause-later g c =
     let b : Follower g.row.D.Denot = record { session = c.args.self.now.session; site = site; story = c.adopting-self.result } in
     followed_as view c.args.self.now b c.requires.going refl (ap (λ d. (view d).simulated) e.disk) (subst (λ d. IsSome (view d).content) (sym e.disk))
     (subst (λ d. (view (disk_of c.args.self.now.site)).faults ≤ (view d).faults) (sym e.disk) (le_refl _)) (front_by _ _ c.adopting-self.ensures.0) (front_by _ _ (ap (λ (m : Memory). reigns m.instance.records) e.stamp))
+    tt (λ on_b known o h is. opens_same view c.args.self.now b c.requires.going c.adopting-self.ensures.0 known o h h is (e.stays_open known o h is))
     (inl (returns-in-Ok-clause-going g c))
