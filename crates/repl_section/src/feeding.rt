@@ -14,7 +14,10 @@ ghost use Rattle.repl_section.specs.Followers.{IsFitFollower, IsFollowing, HasFo
 
 use crate::follower::Follower;
 use crate::reign::Reign;
+use crate::shipping::{Spent, SpentPrimary};
+use global_defs::limits::NUMBERS_END;
 use gvn_key::{Bytes, NoMemory};
+use gvn_model::History;
 use repl_disk::Disk;
 use repl_link::Linker;
 use ship_session::{SessionEnd, finish};
@@ -210,5 +213,59 @@ pub fn feed<D: Disk, L: Linker>(
     match finish(alloc, &theirs, name, primary, follower, links, session, 0) {
         Ok(end) => close(end, primary.site.fault(), follower),
         Err(_) => stopped(follower.site.fault(), primary.site.fault()),
+    }
+}
+
+/// The history of a primary that gives no further entry: its hardened entries, and one more that never comes, so that no BYE is due.
+fn spent_history<D: Disk>(primary: &Reign<D>) -> Result<History, NoMemory> {
+    Ok(History {
+        length: (primary.site.hardened_length() + 1).min(NUMBERS_END - 1),
+        reigns: primary.site.history().reigns.copy()?,
+    })
+}
+
+/// How a session ended in which no entry was given, at a follower with so many entries.
+fn ended_without(end: SessionEnd<Spent>, number: u64) -> FollowerEnd {
+    match end {
+        SessionEnd::At(number) => FollowerEnd::At(number),
+        SessionEnd::Failed(Spent) => FollowerEnd::At(number),
+        SessionEnd::LinkCut => FollowerEnd::LinkCut(number),
+        SessionEnd::RollbackFirst(number) => FollowerEnd::RollbackFirst(number),
+        SessionEnd::BadFrame { offset } => FollowerEnd::BadFrame(offset),
+    }
+}
+
+/// Runs a follower's session to its end behind the fault of a primary: they shake hands as ever, and then nothing comes, and no BYE.
+///
+/// # Errors
+/// `NoMemory`.
+pub fn feed_nothing<D: Disk, L: Linker>(
+    alloc: Global,
+    primary: &Reign<D>,
+    name: &Bytes,
+    follower: &mut Follower<D>,
+    links: &mut L,
+) -> Result<Fed, NoMemory> {
+    let theirs = spent_history(primary)?;
+    let session = follower.session;
+    let ended = finish(
+        alloc,
+        &theirs,
+        name,
+        &mut SpentPrimary,
+        follower,
+        links,
+        session,
+        0,
+    );
+    let Ok(end) = ended else {
+        return stopped(follower.site.fault(), None);
+    };
+    match follower.harden() {
+        Ok(()) => Ok(without(
+            ended_without(end, follower.site.sequence_length()),
+            None,
+        )),
+        Err(_) => stopped(follower.site.fault(), None),
     }
 }

@@ -23,7 +23,7 @@ mod story;
 
 pub use decision::Decision;
 pub use error::DecideError;
-pub use feeding::{Fed, FollowerEnd, Unread, feed};
+pub use feeding::{Fed, FollowerEnd, Unread, feed, feed_nothing};
 pub use follower::Follower;
 pub use reign::Reign;
 pub use running::RunError;
